@@ -1,0 +1,4 @@
+pub mod Sizes
+pub mod Answer
+pub mod Number
+pub mod Output
