@@ -1,0 +1,50 @@
+-- Entries as they are written: "Writing uses the short header to 254 and the long one from 255" (document 01).
+-- Assumes nothing.
+use Prim.Native.Nat.{ℕ, _+_, _/_, _%_}
+use mathlib.Core.Bool.{Bool, true, not}
+use mathlib.Core.List.{List, [], _∷_, _++_}
+use lib.ListN.{length}
+use lib.Dec.{leb, ltb, eqb}
+use Rattle.refusal.specs.Sizes.{mostShort, mostValue}
+use Rattle.refusal.specs.Answer.{pick, Answer, given, absent, refused, onGiven}
+use Rattle.refusal.specs.Output.{Placed, placing, placed}
+use Rattle.tlv.specs.Entries.{Entry}
+use Rattle.tlv.specs.Limits.{framed}
+use Rattle.tlv.specs.declared.Choice.{Choice}
+use Rattle.tlv.specs.declared.Choice.the-variants as c
+
+-- one entry, with the shortest header
+unfoldable pub encode : (ty : ℕ) → (value : List ℕ) → List ℕ
+encode t v = pick (leb (length v) mostShort) (t ∷ length v ∷ v) (t ∷ 255 ∷ (length v / 256) ∷ (length v % 256) ∷ v)
+
+-- how many bytes that is, for a value of n bytes
+unfoldable pub sizeOf : ℕ → ℕ
+sizeOf n = pick (leb n mostShort) (n + 2) (n + 4)
+
+-- 13: "value over 65,535 bytes ... to be written"
+unfoldable pub encoded : (ty : ℕ) → (value : List ℕ) → Answer (List ℕ)
+encoded t v = pick (ltb mostValue (length v)) (refused 13 0 0) (given (encode t v))
+
+-- what is given from a place on, or nothing
+unfoldable pub placedIf : Answer (List ℕ) → ℕ → List ℕ → Placed
+placedIf (given bs) at out = placed bs at out
+placedIf absent at out = placing at out
+placedIf (refused n p i) at out = placing at out
+
+-- entries one after the other
+unfoldable pub encodeAll : List Entry → List ℕ
+encodeAll [] = []
+encodeAll (e ∷ es) = encode (e .ty) (e .value) ++ encodeAll es
+
+-- which entries a choice keeps
+unfoldable pub keeps : Choice → (ty : ℕ) → Bool
+keeps c.All t = true
+keeps (c.Without x) t = not (eqb t x)
+
+unfoldable pub kept : Choice → List Entry → List Entry
+kept c [] = []
+kept c (e ∷ es) = pick (keeps c (e .ty)) (e ∷ kept c es) (kept c es)
+
+-- the entries of s that are kept, written afresh. The result is never longer than s, so 10 cannot occur
+unfoldable pub rewritten : Choice → List ℕ → Answer (List ℕ)
+rewritten c s = onGiven (λ (es : List Entry). encodeAll (kept c es)) (framed 0 s)

@@ -1,0 +1,6 @@
+pub mod Entries
+pub mod Limits
+pub mod Last
+pub mod Encode
+pub mod Place
+pub mod Answers

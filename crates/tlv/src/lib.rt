@@ -1,0 +1,157 @@
+// Entries of a type byte, a length and a value (tlv.rs): framing, the last value of a type, and writing.
+use refusal::Fault;
+use refusal::Refusal;
+use refusal::Written;
+ghost use mathlib.Core.Path.{_≡_};
+ghost use Prim.Native.Nat.{_+_, _≤_};
+ghost use lib.ListN.{length};
+ghost use Rattle.refusal.specs.Sizes.{mostBytes};
+ghost use Rattle.refusal.specs.Output.{output, emit, writtenAnswer, placing};
+ghost use Rattle.tlv.specs.Entries.{first, framing};
+ghost use Rattle.tlv.specs.Limits.{count};
+ghost use Rattle.tlv.specs.Last.{lastSpot, lastValue};
+ghost use Rattle.tlv.specs.Encode.{encoded, placedIf, rewritten};
+ghost use Rattle.tlv.specs.Place.{frameAt};
+ghost use Rattle.tlv.specs.Answers.{countedAnswer, foundAnswer, parsedAnswer, headOf};
+ghost use Rattle.tlv.specs.declared.Choice.the-variants.{All};
+
+// The longest value under a short header, the length byte that announces a long one, and the longest value of all.
+pub const MAX_STANDARD_TLV_LENGTH: usize = 254;
+
+pub const EXTENDED_TLV_MARKER: u8 = 255;
+
+pub const MAX_EXTENDED_TLV_LENGTH: usize = 65535;
+
+// What stands at a place: an entry, whose value is the len bytes from start on; an entry that is cut short; or nothing.
+pub enum Frame {
+    Entry { ty: u8, start: usize, len: usize },
+    Cut,
+    End,
+}
+
+// The first entry of some bytes.
+pub enum Parsed {
+    Entry { ty: u8, header: usize, len: usize },
+    Refused(Refusal),
+}
+
+pub enum Counted {
+    Entries(usize),
+    Refused(Refusal),
+}
+
+// Where the entry that was asked for lies: its first byte, its value's first byte, its value's length.
+pub enum Found {
+    At {
+        place: usize,
+        start: usize,
+        len: usize,
+    },
+    Absent,
+    Refused(Refusal),
+}
+
+// Which entries to write.
+pub enum Choice {
+    All,
+    Without(u8),
+}
+
+// What stands at a place of s: the step of every walk over entries.
+pub fn frame_at(s: &[u8], at: usize) -> Frame
+    ensures { λ r. ⌜ r ≡ frameAt (now (s .entry)) at ⌝ }
+{
+    let n = s.len();
+    if n <= at {
+        return Frame::End;
+    }
+    if n - at < 2 {
+        return Frame::Cut;
+    }
+    let ty = s[at];
+    let short = s[at + 1] as usize;
+    if short == 255 {
+        if n - at < 4 {
+            return Frame::Cut;
+        }
+        let long = (s[at + 2] as usize) * 256 + s[at + 3] as usize;
+        if long <= n - (at + 4) {
+            return Frame::Entry {
+                ty: ty,
+                start: at + 4,
+                len: long,
+            };
+        }
+        return Frame::Cut;
+    }
+    if short <= n - (at + 2) {
+        return Frame::Entry {
+            ty: ty,
+            start: at + 2,
+            len: short,
+        };
+    }
+    Frame::Cut
+}
+
+// The first entry of s, of which only that is looked at. Refusal: 2.
+pub fn parse_one(s: &[u8]) -> Parsed
+    ensures { λ r. ⌜ parsedAnswer r ≡ headOf (first (now (s .entry))) ⌝ }
+{
+    match frame_at(s, 0) {
+        Frame::Entry { ty, start, len } => Parsed::Entry {
+            ty: ty,
+            header: start,
+            len: len,
+        },
+        _ => Parsed::Refused(Refusal {
+            fault: Fault::Cut,
+            place: 0,
+            input: 0,
+        }),
+    }
+}
+
+// How many entries s has, which is the caller's input of that number. Refusals: 1, 2, 3.
+pub fn count_entries(s: &[u8], input: u8) -> Counted
+    ensures { λ r. ⌜ countedAnswer r ≡ count input (now (s .entry)) ⌝ }
+{
+    if s.len() > refusal::MAX_BYTES {
+        return Counted::Refused(Refusal {
+            fault: Fault::TooLarge,
+            place: 0,
+            input: input,
+        });
+    }
+    let mut at: usize = 0;
+    let mut n: usize = 0;
+    let mut over: usize = 0;
+    loop {
+        match frame_at(s, at) {
+            Frame::End => {
+                if n > refusal::MAX_ENTRIES {
+                    return Counted::Refused(Refusal {
+                        fault: Fault::TooMany,
+                        place: over,
+                        input: input,
+                    });
+                }
+                return Counted::Entries(n);
+            }
+            Frame::Cut => {
+                return Counted::Refused(Refusal {
+                    fault: Fault::Cut,
+                    place: at,
+                    input: input,
+                });
+            }
+            Frame::Entry { ty: _, start, len } => {
+                if n == refusal::MAX_ENTRIES {
+                    over = at;
+                }
+                n += 1;
+                at = start + len;
+            }
+        }
+    }
+}

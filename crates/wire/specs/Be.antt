@@ -1,0 +1,48 @@
+-- Numbers of a fixed length: "Numbers are big-endian" (document 01), so the upper byte is first.
+-- Assumes nothing.
+use Prim.Native.Nat.{ℕ, zero, suc, _+_, _*_, _/_, _%_}
+use mathlib.Core.List.{List, [], _∷_, _++_}
+use lib.ListN.{length}
+use lib.Dec.{ltb, eqb}
+use Rattle.refusal.specs.Sizes.{mostBytes}
+use Rattle.refusal.specs.Answer.{pick, Answer, given, refused}
+use Rattle.refusal.specs.Number.{refusalAnswer}
+use Rattle.wire.specs.declared.Read16.{Read16}
+use Rattle.wire.specs.declared.Read16.the-variants as v16
+use Rattle.wire.specs.declared.Read32.{Read32}
+use Rattle.wire.specs.declared.Read32.the-variants as v32
+use Rattle.wire.specs.declared.Read64.{Read64}
+use Rattle.wire.specs.declared.Read64.the-variants as v64
+
+-- the number that x and then the bytes spell
+unfoldable pub beFrom : ℕ → List ℕ → ℕ
+beFrom x [] = x
+beFrom x (b ∷ bs) = beFrom (x * 256 + b) bs
+
+unfoldable pub be : List ℕ → ℕ
+be s = beFrom 0 s
+
+-- why a value of n bytes, which is not its length, is refused: 1 where it is over the size, else 4 at the place of the entry that holds it
+unfoldable pub wrongLength : (place n : ℕ) → Answer ℕ
+wrongLength place n = pick (ltb mostBytes n) (refused 1 0 0) (refused 4 place 0)
+
+-- the number that a value spells whose length must be k
+unfoldable pub fixed : (k place : ℕ) → List ℕ → Answer ℕ
+fixed k place v = pick (eqb (length v) k) (given (be v)) (wrongLength place (length v))
+
+-- the lower k bytes of x, the upper one first
+unfoldable pub bytesOf : (k : ℕ) → ℕ → List ℕ
+bytesOf zero x = []
+bytesOf (suc k) x = bytesOf k (x / 256) ++ (x % 256 ∷ [])
+
+abbrev pub answer16 : Read16 → Answer ℕ
+answer16 (v16.Value x) = given x
+answer16 (v16.Refused r) = refusalAnswer r
+
+abbrev pub answer32 : Read32 → Answer ℕ
+answer32 (v32.Value x) = given x
+answer32 (v32.Refused r) = refusalAnswer r
+
+abbrev pub answer64 : Read64 → Answer ℕ
+answer64 (v64.Value x) = given x
+answer64 (v64.Refused r) = refusalAnswer r

@@ -1,0 +1,153 @@
+// Numbers of 2, 4 and 8 bytes, big-endian, read from values of exactly that length and written; and bytes put into a lent output.
+use refusal::Fault;
+use refusal::Refusal;
+ghost use mathlib.Core.Path.{_≡_};
+ghost use Prim.Native.Nat.{_+_, _^_, _≤_, _<_};
+ghost use lib.ListN.{length};
+ghost use Rattle.refusal.specs.Number.{refusalAnswer};
+ghost use Rattle.refusal.specs.Output.{put, placing, placed};
+ghost use Rattle.wire.specs.Be.{be, wrongLength, fixed, bytesOf, answer16, answer32, answer64};
+
+pub enum Read16 {
+    Value(u16),
+    Refused(Refusal),
+}
+
+pub enum Read32 {
+    Value(u32),
+    Refused(Refusal),
+}
+
+pub enum Read64 {
+    Value(u64),
+    Refused(Refusal),
+}
+
+// The number that s spells.
+fn be_value(s: &[u8]) -> u64
+    requires { ⌜ length (now s) ≤ 8 ⌝ }
+    ensures { λ r. ⌜ (r ≡ be (now (s .entry))) × (r < 256 ^ length (now (s .entry))) ⌝ }
+{
+    let mut x: u64 = 0;
+    let mut i: usize = 0;
+    while i < s.len() {
+        x = x * 256 + s[i] as u64;
+        i += 1;
+    }
+    x
+}
+
+// Why a value of n bytes, which is not its length, is refused.
+fn misfit(n: usize, place: usize) -> Refusal
+    ensures { λ r. ⌜ refusalAnswer r ≡ wrongLength place n ⌝ }
+{
+    if n > refusal::MAX_BYTES {
+        return Refusal {
+            fault: Fault::TooLarge,
+            place: 0,
+            input: 0,
+        };
+    }
+    Refusal {
+        fault: Fault::BadLength,
+        place: place,
+        input: 0,
+    }
+}
+
+// The number that a value of 2 bytes spells. Refusals: 1, then 4 at the place of its entry, which is 0 for a bare value.
+pub fn read_u16(value: &[u8], place: usize) -> Read16
+    ensures { λ r. ⌜ answer16 r ≡ fixed 2 place (now (value .entry)) ⌝ }
+{
+    if value.len() != 2 {
+        return Read16::Refused(misfit(value.len(), place));
+    }
+    Read16::Value(be_value(value) as u16)
+}
+
+// The same of 4 bytes.
+pub fn read_u32(value: &[u8], place: usize) -> Read32
+    ensures { λ r. ⌜ answer32 r ≡ fixed 4 place (now (value .entry)) ⌝ }
+{
+    if value.len() != 4 {
+        return Read32::Refused(misfit(value.len(), place));
+    }
+    Read32::Value(be_value(value) as u32)
+}
+
+// The same of 8 bytes.
+pub fn read_u64(value: &[u8], place: usize) -> Read64
+    ensures { λ r. ⌜ answer64 r ≡ fixed 8 place (now (value .entry)) ⌝ }
+{
+    if value.len() != 8 {
+        return Read64::Refused(misfit(value.len(), place));
+    }
+    Read64::Value(be_value(value))
+}
+
+// The bytes of a number.
+pub fn u16_bytes(x: u16) -> [u8; 2]
+    ensures { λ r. ⌜ r ≡ bytesOf 2 x ⌝ }
+{
+    [(x / 256 % 256) as u8, (x % 256) as u8]
+}
+
+pub fn u32_bytes(x: u32) -> [u8; 4]
+    ensures { λ r. ⌜ r ≡ bytesOf 4 x ⌝ }
+{
+    let y = x / 256;
+    let z = y / 256;
+    [
+        (z / 256 % 256) as u8,
+        (z % 256) as u8,
+        (y % 256) as u8,
+        (x % 256) as u8,
+    ]
+}
+
+pub fn u64_bytes(x: u64) -> [u8; 8]
+    ensures { λ r. ⌜ r ≡ bytesOf 8 x ⌝ }
+{
+    let b6 = x / 256;
+    let b5 = b6 / 256;
+    let b4 = b5 / 256;
+    let b3 = b4 / 256;
+    let b2 = b3 / 256;
+    let b1 = b2 / 256;
+    [
+        (b1 / 256 % 256) as u8,
+        (b1 % 256) as u8,
+        (b2 % 256) as u8,
+        (b3 % 256) as u8,
+        (b4 % 256) as u8,
+        (b5 % 256) as u8,
+        (b6 % 256) as u8,
+        (x % 256) as u8,
+    ]
+}
+
+// All of src into dst from at on; the place after it.
+fn copy(src: &[u8], dst: &mut [u8], at: usize) -> usize
+    requires { ⌜ at + length (now src) ≤ length (now dst) ⌝ }
+    ensures { λ r. ⌜ (r ≡ at + length (now (src .entry))) × (now (dst .exit) ≡ put (now (dst .entry)) at (now (src .entry))) ⌝ }
+{
+    let mut i = 0;
+    while i < src.len() {
+        dst[at + i] = src[i];
+        i += 1;
+    }
+    at + i
+}
+
+// All of bytes into out from at on, and the place after them; or nothing, and at, where they have no room.
+pub fn put_bytes(bytes: &[u8], out: &mut [u8], at: usize) -> usize
+    ensures { λ r. ⌜ placing r (now (out .exit)) ≡ placed (now (bytes .entry)) at (now (out .entry)) ⌝ }
+{
+    if at > out.len() {
+        return at;
+    }
+    if bytes.len() > out.len() - at {
+        return at;
+    }
+    copy(bytes, out, at)
+}
