@@ -1,2 +1,5 @@
 pub mod Walks
 pub mod Tally
+pub mod Encodes
+pub mod Lasts
+pub mod Kept

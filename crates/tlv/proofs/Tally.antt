@@ -119,6 +119,20 @@ module _ (i : ℕ) where
     unfolding count
     counted-refused s n p k e = refused-by (framed i s) n p k e
 
+  -- the same for a call that answers f of the entries
+  module _ {B : Type 0} (f : List Entry → B) where
+    on-given : (a : Answer (List Entry)) → onGiven f a ≡ thenDo a (λ (es : List Entry). given (f es))
+    on-given (given es) = refl
+    on-given absent = refl
+    on-given (refused n p k) = refl
+
+    pub answers-given : (s : List ℕ) (n : ℕ) → given n ≡ count i s → onGiven f (framed i s) ≡ given (f (framing s .entries))
+    answers-given s n e =
+        on-given (framed i s) ∙ counted-given (λ (es : List Entry). given (f es)) s n e ∙ ap (λ (w : Framing). given (f (w .entries))) (from-start s)
+
+    pub answers-refused : (s : List ℕ) (n p k : ℕ) → refused n p k ≡ count i s → refused n p k ≡ onGiven f (framed i s)
+    answers-refused s n p k e = counted-refused (λ (es : List Entry). given (f es)) s n p k e ∙ sym (on-given (framed i s))
+
   -- what holds of the walk's entries holds of those that are given
   abbrev pub Holds : (List Entry → Type 0) → Answer (List Entry) → Type 0
   Holds P (given xs) = P xs

@@ -6,7 +6,7 @@ use lib.ListN.{length}
 use Rattle.refusal.specs.Answer.{Answer, given, absent, refused}
 use Rattle.refusal.specs.Number.{refusalAnswer}
 use Rattle.tlv.specs.Entries.{First, none, cut, one, first}
-use Rattle.tlv.specs.Last.{Spot}
+use Rattle.tlv.specs.Last.{Spot, spotAt}
 use Rattle.tlv.specs.declared.Counted.{Counted}
 use Rattle.tlv.specs.declared.Counted.the-variants as c
 use Rattle.tlv.specs.declared.Found.{Found}
@@ -19,7 +19,7 @@ countedAnswer (c.Entries n) = given n
 countedAnswer (c.Refused r) = refusalAnswer r
 
 abbrev pub foundAnswer : Found → Answer Spot
-foundAnswer (f.At p a n) = given (record { place = p; start = a; len = n })
+foundAnswer (f.At p a n) = given (spotAt p a n)
 foundAnswer f.Absent = absent
 foundAnswer (f.Refused r) = refusalAnswer r
 

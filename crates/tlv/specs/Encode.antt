@@ -13,9 +13,13 @@ use Rattle.tlv.specs.Limits.{framed}
 use Rattle.tlv.specs.declared.Choice.{Choice}
 use Rattle.tlv.specs.declared.Choice.the-variants as c
 
--- one entry, with the shortest header
+-- the shortest header of a value of n bytes
+unfoldable pub header : (ty n : ℕ) → List ℕ
+header t n = pick (leb n mostShort) (t ∷ n ∷ []) (t ∷ 255 ∷ (n / 256) ∷ (n % 256) ∷ [])
+
+-- one entry
 unfoldable pub encode : (ty : ℕ) → (value : List ℕ) → List ℕ
-encode t v = pick (leb (length v) mostShort) (t ∷ length v ∷ v) (t ∷ 255 ∷ (length v / 256) ∷ (length v % 256) ∷ v)
+encode t v = header t (length v) ++ v
 
 -- how many bytes that is, for a value of n bytes
 unfoldable pub sizeOf : ℕ → ℕ
@@ -37,14 +41,17 @@ encodeAll [] = []
 encodeAll (e ∷ es) = encode (e .ty) (e .value) ++ encodeAll es
 
 -- which entries a choice keeps
-unfoldable pub keeps : Choice → (ty : ℕ) → Bool
-keeps c.All t = true
-keeps (c.Without x) t = not (eqb t x)
+unfoldable pub keepsOf : Choice → (ty : ℕ) → Bool
+keepsOf c.All t = true
+keepsOf (c.Without x) t = not (eqb t x)
 
 unfoldable pub kept : Choice → List Entry → List Entry
 kept c [] = []
-kept c (e ∷ es) = pick (keeps c (e .ty)) (e ∷ kept c es) (kept c es)
+kept c (e ∷ es) = pick (keepsOf c (e .ty)) (e ∷ kept c es) (kept c es)
+
+unfoldable pub keptBytes : Choice → List Entry → List ℕ
+keptBytes c es = encodeAll (kept c es)
 
 -- the entries of s that are kept, written afresh. The result is never longer than s, so 10 cannot occur
 unfoldable pub rewritten : Choice → List ℕ → Answer (List ℕ)
-rewritten c s = onGiven (λ (es : List Entry). encodeAll (kept c es)) (framed 0 s)
+rewritten c s = onGiven (keptBytes c) (framed 0 s)

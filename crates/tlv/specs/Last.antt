@@ -22,8 +22,11 @@ pub record Spot : Type 0 where
   pub start : ℕ
   pub len : ℕ
 
+abbrev pub spotAt : (place start len : ℕ) → Spot
+spotAt p a n = record { place = p; start = a; len = n }
+
 abbrev pub spot : Entry → Spot
-spot e = record { place = e .place; start = e .start; len = length (e .value) }
+spot e = spotAt (e .place) (e .start) (length (e .value))
 
 unfoldable pub lastSpot : (ty input : ℕ) → List ℕ → Answer Spot
 lastSpot ty i s = onGiven spot (lastEntry ty i s)

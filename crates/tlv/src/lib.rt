@@ -5,12 +5,12 @@ use refusal::Written;
 ghost use mathlib.Core.Path.{_≡_};
 ghost use Prim.Native.Nat.{_+_, _≤_};
 ghost use lib.ListN.{length};
-ghost use Rattle.refusal.specs.Sizes.{mostBytes};
-ghost use Rattle.refusal.specs.Output.{output, emit, writtenAnswer, placing};
+ghost use Rattle.refusal.specs.Sizes.{mostBytes, mostValue};
+ghost use Rattle.refusal.specs.Output.{output, emit, writtenAnswer, put, placing};
 ghost use Rattle.tlv.specs.Entries.{first, framing};
 ghost use Rattle.tlv.specs.Limits.{count};
 ghost use Rattle.tlv.specs.Last.{lastSpot, lastValue};
-ghost use Rattle.tlv.specs.Encode.{encoded, placedIf, rewritten};
+ghost use Rattle.tlv.specs.Encode.{header, sizeOf, encoded, placedIf, keepsOf, keptBytes, rewritten};
 ghost use Rattle.tlv.specs.Place.{frameAt};
 ghost use Rattle.tlv.specs.Answers.{countedAnswer, foundAnswer, parsedAnswer, headOf};
 ghost use Rattle.tlv.specs.declared.Choice.the-variants.{All};
@@ -154,4 +154,199 @@ pub fn count_entries(s: &[u8], input: u8) -> Counted
             }
         }
     }
+}
+
+// Where the last entry of a type lies in s, which is the caller's input of that number. Refusals: 1, 2, 3.
+pub fn last_entry(s: &[u8], ty: u8, input: u8) -> Found
+    ensures { λ r. ⌜ foundAnswer r ≡ lastSpot ty input (now (s .entry)) ⌝ }
+{
+    match count_entries(s, input) {
+        Counted::Refused(r) => {
+            return Found::Refused(r);
+        }
+        Counted::Entries(_) => {}
+    }
+    let mut best = Found::Absent;
+    let mut at: usize = 0;
+    loop {
+        match frame_at(s, at) {
+            Frame::Entry { ty: t, start, len } => {
+                if t == ty {
+                    best = Found::At {
+                        place: at,
+                        start: start,
+                        len: len,
+                    };
+                }
+                at = start + len;
+            }
+            _ => {
+                return best;
+            }
+        }
+    }
+}
+
+// The value of the last entry of a type, as a part of s; no bytes where there is none or s is refused (`last_entry` tells which).
+pub fn last_value<'a>(s: &'a [u8], ty: u8) -> &'a [u8]
+    ensures { λ r. ⌜ now r ≡ lastValue ty (now (s .entry)) ⌝ }
+{
+    match last_entry(s, ty, 0) {
+        Found::At {
+            place: _,
+            start,
+            len,
+        } => &s[start..start + len],
+        _ => &s[..0],
+    }
+}
+
+// How many bytes an entry takes whose value has n bytes.
+fn size_of(n: usize) -> usize
+    requires { ⌜ n ≤ mostValue ⌝ }
+    ensures { λ r. ⌜ r ≡ sizeOf n ⌝ }
+{
+    if n <= MAX_STANDARD_TLV_LENGTH {
+        n + 2
+    } else {
+        n + 4
+    }
+}
+
+// The header of an entry whose value has n bytes, from at on; the place after it.
+fn put_header(ty: u8, n: usize, out: &mut [u8], at: usize) -> usize
+    requires { ⌜ (n ≤ mostValue) × (at + sizeOf n ≤ length (now out)) ⌝ }
+    ensures { λ r. ⌜ (r ≡ at + length (header ty n)) × (now (out .exit) ≡ put (now (out .entry)) at (header ty n)) ⌝ }
+{
+    out[at] = ty;
+    if n <= MAX_STANDARD_TLV_LENGTH {
+        out[at + 1] = n as u8;
+        return at + 2;
+    }
+    out[at + 1] = EXTENDED_TLV_MARKER;
+    out[at + 2] = (n / 256) as u8;
+    out[at + 3] = (n % 256) as u8;
+    at + 4
+}
+
+// An entry into out from at on, and the place after it; or nothing, and at, where it has no room or its value is over 65,535 bytes.
+pub fn put_entry(ty: u8, value: &[u8], out: &mut [u8], at: usize) -> usize
+    ensures { λ r. ⌜ placing r (now (out .exit)) ≡ placedIf (encoded ty (now (value .entry))) at (now (out .entry)) ⌝ }
+{
+    let n = value.len();
+    if n > MAX_EXTENDED_TLV_LENGTH {
+        return at;
+    }
+    if at > out.len() {
+        return at;
+    }
+    if size_of(n) > out.len() - at {
+        return at;
+    }
+    let start = put_header(ty, n, out, at);
+    wire::put_bytes(value, out, start)
+}
+
+// One entry at the start of out. Refusals: 13, 11.
+pub fn write_entry(ty: u8, value: &[u8], out: &mut [u8]) -> Written
+    ensures { λ r. ⌜ output (writtenAnswer r) (now (out .exit)) ≡ emit (encoded ty (now (value .entry))) (now (out .entry)) ⌝ }
+{
+    if value.len() > MAX_EXTENDED_TLV_LENGTH {
+        return Written::Refused(Refusal {
+            fault: Fault::ValueTooLong,
+            place: 0,
+            input: 0,
+        });
+    }
+    if size_of(value.len()) > out.len() {
+        return Written::Refused(Refusal {
+            fault: Fault::NoRoom,
+            place: 0,
+            input: 0,
+        });
+    }
+    Written::Bytes(put_entry(ty, value, out, 0))
+}
+
+fn keeps(c: Choice, t: u8) -> bool
+    ensures { λ r. ⌜ r ≡ keepsOf c t ⌝ }
+{
+    match c {
+        Choice::All => true,
+        Choice::Without(x) => t != x,
+    }
+}
+
+// How many bytes the entries that are kept take.
+fn kept_len(s: &[u8], c: Choice) -> usize
+    requires { ⌜ length (now s) ≤ mostBytes ⌝ }
+    ensures { λ r. ⌜ r ≡ length (keptBytes c (framing (now (s .entry)) .entries)) ⌝ }
+{
+    let mut need: usize = 0;
+    let mut at: usize = 0;
+    loop {
+        match frame_at(s, at) {
+            Frame::Entry { ty, start, len } => {
+                if keeps(c, ty) {
+                    need += size_of(len);
+                }
+                at = start + len;
+            }
+            _ => {
+                return need;
+            }
+        }
+    }
+}
+
+// The entries that are kept, at the start of out.
+fn put_kept(s: &[u8], c: Choice, out: &mut [u8])
+    requires { ⌜ (length (now s) ≤ mostBytes) × (length (keptBytes c (framing (now s) .entries)) ≤ length (now out)) ⌝ }
+    ensures { λ _. ⌜ now (out .exit) ≡ put (now (out .entry)) 0 (keptBytes c (framing (now (s .entry)) .entries)) ⌝ }
+{
+    let mut to: usize = 0;
+    let mut at: usize = 0;
+    loop {
+        match frame_at(s, at) {
+            Frame::Entry { ty, start, len } => {
+                let end = start + len;
+                if keeps(c, ty) {
+                    to = put_entry(ty, &s[start..end], out, to);
+                }
+                at = end;
+            }
+            _ => {
+                return;
+            }
+        }
+    }
+}
+
+// The entries of s that are kept, written afresh with the shortest headers at the start of out. Refusals: 1, 2, 3, 11.
+pub fn write_kept(s: &[u8], c: Choice, out: &mut [u8]) -> Written
+    ensures { λ r. ⌜ output (writtenAnswer r) (now (out .exit)) ≡ emit (rewritten c (now (s .entry))) (now (out .entry)) ⌝ }
+{
+    match count_entries(s, 0) {
+        Counted::Refused(r) => {
+            return Written::Refused(r);
+        }
+        Counted::Entries(_) => {}
+    }
+    let need = kept_len(s, c);
+    if need > out.len() {
+        return Written::Refused(Refusal {
+            fault: Fault::NoRoom,
+            place: 0,
+            input: 0,
+        });
+    }
+    put_kept(s, c, out);
+    Written::Bytes(need)
+}
+
+// All entries of s, written afresh with the shortest headers at the start of out. Refusals: 1, 2, 3, 11.
+pub fn rewrite(s: &[u8], out: &mut [u8]) -> Written
+    ensures { λ r. ⌜ output (writtenAnswer r) (now (out .exit)) ≡ emit (rewritten All (now (s .entry))) (now (out .entry)) ⌝ }
+{
+    write_kept(s, Choice::All, out)
 }

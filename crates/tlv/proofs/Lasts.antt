@@ -1,0 +1,103 @@
+-- The laws of `lastOf`: one entry more, of the type or of another, where only the spots are kept; and a value that is found is a part of
+-- the input.
+-- Assumes nothing.
+use mathlib.Core.Path.{_≡_, refl, sym, ap, _∙_, subst}
+use mathlib.Core.Bool.{Bool, true, false}
+use mathlib.Core.List.{List, [], _∷_}
+use Prim.Native.Nat.{ℕ, _+_, _≤_}
+use native.Mathlib.Omega.{arith}
+use lib.ListN.{length, take, drop}
+use lib.Dec.{eqb}
+use borrow.Author.Tests.{eq-eqb, ne-eqb}
+use Rattle.refusal.specs.Answer.{pick, Answer, given, absent, refused, thenDo, onGiven}
+use Rattle.laws.proofs.Tests.{pick-all}
+use Rattle.laws.proofs.Parts.{length-part, Every}
+use Rattle.tlv.specs.Entries.{Entry, entry}
+use Rattle.tlv.specs.Limits.{framed}
+use Rattle.tlv.specs.Last.{lastOf, lastEntry, Spot, spotAt, spot, lastSpot, valueOr, lastValue}
+use Rattle.tlv.proofs.Walks.{Lies, framing-lies}
+use Rattle.tlv.proofs.Tally.{Holds, framed-holds}
+
+-- the spot of the last of es that has the type, or `best`
+unfoldable pub lastSpotOf : (ty : ℕ) → Answer Spot → List Entry → Answer Spot
+lastSpotOf ty best [] = best
+lastSpotOf ty best (e ∷ es) = lastSpotOf ty (pick (eqb (e .ty) ty) (given (spot e)) best) es
+
+pick-spot : (b : Bool) (e : Entry) (best : Answer Entry) → onGiven spot (pick b (given e) best) ≡ pick b (given (spot e)) (onGiven spot best)
+pick-spot true e best = refl
+pick-spot false e best = refl
+
+spots-of : (ty : ℕ) (best : Answer Entry) (es : List Entry) → onGiven spot (lastOf ty best es) ≡ lastSpotOf ty (onGiven spot best) es
+unfolding lastOf lastSpotOf
+spots-of ty best [] = refl
+spots-of ty best (e ∷ es) =
+    spots-of ty (pick (eqb (e .ty) ty) (given e) best) es ∙ ap (λ (b : Answer Spot). lastSpotOf ty b es) (pick-spot (eqb (e .ty) ty) e best)
+
+spots-then : (ty : ℕ) (a : Answer (List Entry)) → onGiven spot (thenDo a (lastOf ty absent)) ≡ thenDo a (lastSpotOf ty absent)
+spots-then ty (given es) = spots-of ty absent es
+spots-then ty absent = refl
+spots-then ty (refused n p i) = refl
+
+pub spot-then : (ty i : ℕ) (s : List ℕ) → lastSpot ty i s ≡ thenDo (framed i s) (lastSpotOf ty absent)
+unfolding lastSpot lastEntry
+spot-then ty i s = spots-then ty (framed i s)
+
+-- a turn: an entry that lies in s at a place
+module _ (ty : ℕ) (best : Answer Spot) (s : List ℕ) (p t a n : ℕ) (inside : a + n ≤ length s) (es : List Entry) where
+  pub last-hit : t ≡ ty
+      → lastSpotOf ty best (entry p t a (take n (drop a s)) ∷ es) ≡ lastSpotOf ty (given (spotAt p a n)) es
+  unfolding lastSpotOf
+  last-hit h = simp (eq-eqb _ _ h, length-part s a n inside)
+
+  pub last-miss : (t ≡ ty → ⊥) → lastSpotOf ty best (entry p t a (take n (drop a s)) ∷ es) ≡ lastSpotOf ty best es
+  unfolding lastSpotOf
+  last-miss h = simp (ne-eqb _ _ h)
+
+pub last-none : (ty : ℕ) (best : Answer Spot) → lastSpotOf ty best [] ≡ best
+unfolding lastSpotOf
+last-none ty best = refl
+
+-- ---- the entry that is given, if any, lies within s
+abbrev LiesIn : List ℕ → Answer Entry → Type 0
+LiesIn s (given e) = Lies s e
+LiesIn s absent = Unit {0}
+LiesIn s (refused n p i) = Unit {0}
+
+last-lies : (s : List ℕ) (ty : ℕ) (best : Answer Entry) (es : List Entry) → LiesIn s best → Every (Lies s) es → LiesIn s (lastOf ty best es)
+unfolding lastOf
+last-lies s ty best [] b h = b
+last-lies s ty best (e ∷ es) b h =
+    last-lies s ty (pick (eqb (e .ty) ty) (given e) best) es
+    (pick-all (LiesIn s) (eqb (e .ty) ty) (given e) best (λ t. h .0) (λ t. b)) (h .1)
+
+then-lies : (s : List ℕ) (ty i : ℕ) (a : Answer (List Entry)) → Holds i (Every (Lies s)) a → LiesIn s (thenDo a (lastOf ty absent))
+then-lies s ty i (given es) h = last-lies s ty absent es tt h
+then-lies s ty i absent h = tt
+then-lies s ty i (refused n p k) h = tt
+
+entry-lies : (s : List ℕ) (ty i : ℕ) → LiesIn s (lastEntry ty i s)
+unfolding lastEntry
+entry-lies s ty i = then-lies s ty i (framed i s) (framed-holds i (Every (Lies s)) s (framing-lies s))
+
+-- what a caller that has the spot learns: it lies within s, and the part of s there is the value
+part-by : (s : List ℕ) (p a n : ℕ) (x : Answer Entry) → LiesIn s x → given (spotAt p a n) ≡ onGiven spot x
+    → (a + n ≤ length s) × (take n (drop a s) ≡ valueOr x)
+part-by s p a n (given e) l k =
+    let same : spotAt p a n ≡ spot e = cc in
+    rw (ap (λ (x : Spot). x .start) same, ap (λ (x : Spot). x .len) same) (l .1, sym (l .2))
+part-by s p a n absent l k = absurd (let z : _≡_ {A = ℕ} 0 1 = cc in omega arith)
+part-by s p a n (refused x y z) l k = absurd (let z : _≡_ {A = ℕ} 0 1 = cc in omega arith)
+
+pub spot-part : (s : List ℕ) (ty p a n : ℕ) → given (spotAt p a n) ≡ lastSpot ty 0 s
+    → (a + n ≤ length s) × (take n (drop a s) ≡ lastValue ty s)
+unfolding lastSpot lastValue
+spot-part s ty p a n k = part-by s p a n (lastEntry ty 0 s) (entry-lies s ty 0) k
+
+none-by : (x : Answer Entry) (y : Answer Spot) → y ≡ onGiven spot x → ((e : Spot) → y ≡ given e → ⊥) → valueOr x ≡ []
+none-by (given e) y k h = absurd (h (spot e) k)
+none-by absent y k h = refl
+none-by (refused n p i) y k h = refl
+
+pub spot-none : (s : List ℕ) (ty : ℕ) (y : Answer Spot) → y ≡ lastSpot ty 0 s → ((e : Spot) → y ≡ given e → ⊥) → lastValue ty s ≡ []
+unfolding lastSpot lastValue
+spot-none s ty y k h = none-by (lastEntry ty 0 s) y k h

@@ -1,0 +1,71 @@
+-- `tlv::last_value` meets its contract: what `last_entry` found lies within the input.
+-- Assumes nothing.
+use mathlib.Core.Path.{_≡_, sym, ap, _∙_}
+use mathlib.Core.List.{[], _∷_}
+use mathlib.Core.Logic.{⊎-elim}
+use Prim.Native.Nat.{ℕ}
+use native.Mathlib.Omega.{arith}
+use native.Mathlib.Nat.{add-sub-cancel-left}
+use types.Run.{OneOf}
+use denote.Enum.Declared.{tagOf}
+use Rattle.refusal.specs.Answer.{given}
+use Rattle.tlv.specs.Last.{Spot}
+use Rattle.tlv.specs.Answers.{foundAnswer}
+use Rattle.tlv.specs.declared.Found.{Found}
+use Rattle.tlv.specs.declared.Found.the-variants.{At, Absent, Refused}
+use Rattle.tlv.proofs.Found
+use Rattle.tlv.proofs.Lasts.{spot-part, spot-none}
+use borrow.Author.Needs.{needs}
+use Rattle.tlv.proofs.last_value.Statement.{statement}
+use Rattle.tlv.proofs.last_value.Tie as tie
+
+-- the arm for whatever is no place
+no-spot : (r : Found) → OneOf (1 ∷ 2 ∷ []) (tagOf Found.the-type r) → (e : Spot) → foundAnswer r ≡ given e → ⊥
+no-spot (At p a n) k e h = ⊎-elim (λ e. omega arith) (λ e. omega arith) k
+no-spot Absent k e h = let z : _≡_ {A = ℕ} 0 1 = cc in omega arith
+no-spot (Refused r) k e h = let z : _≡_ {A = ℕ} 0 1 = cc in omega arith
+
+last-entry-requires : tie.Need-last-entry-requires
+last-entry-requires c κs = search needs
+
+enum-known-start : tie.Need-enum-known-start
+enum-known-start c = search needs
+
+add-result : tie.Need-add-result
+add-result c = omega (arith, spot-part _ _ _ _ _ (sym (ap foundAnswer (c .before .start .given .1)) ∙ c .before .before .before .last-entry .ensures))
+
+sub-result : tie.Need-sub-result
+sub-result c = search needs
+
+part-result-start : tie.Need-part-result-start
+part-result-start c = search needs
+
+part-result-end : tie.Need-part-result-end
+part-result-end c = omega (arith, spot-part _ _ _ _ _ (sym (ap foundAnswer (c .before .start .given .1)) ∙ c .before .before .before .last-entry .ensures))
+
+slice-aggregate-result : tie.Need-slice-aggregate-result
+slice-aggregate-result c = search needs
+
+returns : tie.Need-returns
+returns c =
+    let t = c .before .before in
+    rw add-sub-cancel-left (spot-part _ _ _ _ _ (sym (ap foundAnswer (t .start .given .1)) ∙ t .before .before .last-entry .ensures) .1)
+
+returns-2 : tie.Need-returns-2
+returns-2 c =
+    let f = c .before .before in
+    sym (spot-none _ _ _ (f .last-entry .ensures) (no-spot (f .last-entry .result) (c .before .match .keys2)))
+
+pub last-value-spec : {M : Type 1} → statement M
+last-value-spec =
+    tie.close
+    (tie.spec
+    last-entry-requires
+    enum-known-start
+    add-result
+    sub-result
+    part-result-start
+    part-result-end
+    slice-aggregate-result
+    returns
+    returns-2)
