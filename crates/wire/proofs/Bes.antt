@@ -8,10 +8,14 @@ use native.Mathlib.Nat.{pow-suc, pow-le-pow-right, lt-of-lt-of-le}
 use native.Mathlib.Numerals.{add-one}
 use lib.ListN.{length, drop, getD}
 use lib.Seq.{drop-cons}
-use lib.Dec.{lit<}
+use lib.Dec.{lit<, ltb}
 use borrow.Author.Tests.{eq-eqb, ne-eqb}
-use Rattle.refusal.specs.Answer.{given}
-use Rattle.wire.specs.Be.{beFrom, be, wrongLength, fixed}
+use Rattle.refusal.specs.Sizes.{mostBytes}
+use Rattle.refusal.specs.Answer.{Answer, given, absent, refused, onGiven}
+use Rattle.refusal.specs.Number.{refusalAnswer}
+use Rattle.refusal.specs.declared.Refusal.{Refusal}
+use Rattle.laws.proofs.Tests.{by-test}
+use Rattle.wire.specs.Be.{beFrom, be, wrongLength, ruled}
 
 pub be-end : (x : ℕ) → beFrom x [] ≡ x
 unfolding beFrom
@@ -27,12 +31,26 @@ bound-next i x b h k = rw (add-one i, pow-suc) (omega arith)
 pub room : (i x : ℕ) → x < 256 ^ i → i < 8 → x < 256 ^ 7
 room i x h l = let k : i ≤ 7 = omega arith in lt-of-lt-of-le h (pow-le-pow-right (lit< tt) k)
 
--- THE FACT over the length: whatever the length k, a value that has it gives its number, and no other value does
-module _ (k place : ℕ) (v : List ℕ) where
-  pub fixed-not : (length v ≡ k → ⊥) → wrongLength place (length v) ≡ fixed k place v
-  unfolding fixed
-  fixed-not h = simp (ne-eqb _ _ h)
+on-wrong : {A B : Type 0} (f : A → B) (place n : ℕ) → onGiven f (wrongLength place n) ≡ wrongLength place n
+unfolding wrongLength
+on-wrong f place n = by-test (ltb mostBytes n) (λ e. rw e) (λ e. rw e)
 
-  pub fixed-is : (x : ℕ) → length v ≡ k → x ≡ be v → given x ≡ fixed k place v
-  unfolding fixed
-  fixed-is x h e = simp (eq-eqb _ _ h) (ap given e)
+-- what `misfit` answers is the refusal of every read, whatever it reads
+pub misfit-any : {A : Type 0} (r : Refusal) (place n : ℕ) → refusalAnswer {A = ℕ} r ≡ wrongLength place n → refusalAnswer {A = A} r ≡ wrongLength place n
+unfolding wrongLength
+misfit-any r place n e = ap again e ∙ by-test (ltb mostBytes n) (λ t. rw t) (λ t. rw t)
+  where
+    again : {A : Type 0} → Answer ℕ → Answer A
+    again (given x) = absent
+    again absent = absent
+    again (refused a b c) = refused a b c
+
+-- THE FACT over the length: whatever the length k, a value that has it gives what is read of it, and no other value does
+module _ {A : Type 0} (f : List ℕ → A) (k place : ℕ) (v : List ℕ) where
+  pub ruled-not : (length v ≡ k → ⊥) → wrongLength place (length v) ≡ onGiven f (ruled k place v)
+  unfolding ruled
+  ruled-not h = rw (ne-eqb _ _ h) (sym (on-wrong f place (length v)))
+
+  pub ruled-is : (x : A) → length v ≡ k → x ≡ f v → given x ≡ onGiven f (ruled k place v)
+  unfolding ruled
+  ruled-is x h e = rw (eq-eqb _ _ h) (ap given e)

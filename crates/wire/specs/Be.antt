@@ -5,7 +5,7 @@ use mathlib.Core.List.{List, [], _∷_, _++_}
 use lib.ListN.{length}
 use lib.Dec.{ltb, eqb}
 use Rattle.refusal.specs.Sizes.{mostBytes}
-use Rattle.refusal.specs.Answer.{pick, Answer, given, refused}
+use Rattle.refusal.specs.Answer.{pick, Answer, given, refused, onGiven}
 use Rattle.refusal.specs.Number.{refusalAnswer}
 use Rattle.wire.specs.declared.Read16.{Read16}
 use Rattle.wire.specs.declared.Read16.the-variants as v16
@@ -23,12 +23,17 @@ unfoldable pub be : List ℕ → ℕ
 be s = beFrom 0 s
 
 -- why a value of n bytes, which is not its length, is refused: 1 where it is over the size, else 4 at the place of the entry that holds it
-unfoldable pub wrongLength : (place n : ℕ) → Answer ℕ
+-- ("A function on one bare value reports place 0")
+unfoldable pub wrongLength : {A : Type 0} → (place n : ℕ) → Answer A
 wrongLength place n = pick (ltb mostBytes n) (refused 1 0 0) (refused 4 place 0)
 
--- the number that a value spells whose length must be k
+-- a value whose length must be k
+unfoldable pub ruled : (k place : ℕ) → List ℕ → Answer (List ℕ)
+ruled k place v = pick (eqb (length v) k) (given v) (wrongLength place (length v))
+
+-- the number that it spells
 unfoldable pub fixed : (k place : ℕ) → List ℕ → Answer ℕ
-fixed k place v = pick (eqb (length v) k) (given (be v)) (wrongLength place (length v))
+fixed k place v = onGiven be (ruled k place v)
 
 -- the lower k bytes of x, the upper one first
 unfoldable pub bytesOf : (k : ℕ) → ℕ → List ℕ

@@ -2,7 +2,7 @@
 use refusal::Fault;
 use refusal::Refusal;
 ghost use mathlib.Core.Path.{_≡_};
-ghost use Prim.Native.Nat.{_+_, _^_, _≤_, _<_};
+ghost use Prim.Native.Nat.{ℕ, _+_, _^_, _≤_, _<_};
 ghost use lib.ListN.{length};
 ghost use Rattle.refusal.specs.Number.{refusalAnswer};
 ghost use Rattle.refusal.specs.Output.{put, placing, placed};
@@ -37,9 +37,9 @@ fn be_value(s: &[u8]) -> u64
     x
 }
 
-// Why a value of n bytes, which is not its length, is refused.
-fn misfit(n: usize, place: usize) -> Refusal
-    ensures { λ r. ⌜ refusalAnswer r ≡ wrongLength place n ⌝ }
+// Why a value of n bytes, which is not its length, is refused: 1, or 4 at the place of its entry.
+pub fn misfit(n: usize, place: usize) -> Refusal
+    ensures { λ r. ⌜ refusalAnswer {A = ℕ} r ≡ wrongLength place n ⌝ }
 {
     if n > refusal::MAX_BYTES {
         return Refusal {

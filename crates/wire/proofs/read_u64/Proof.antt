@@ -1,7 +1,8 @@
 -- `wire::read_u64` meets its contract, by the fact over the length.
 -- Assumes nothing.
 use mathlib.Core.Path.{_∙_}
-use Rattle.wire.proofs.Bes.{fixed-not, fixed-is}
+use Rattle.wire.specs.Be.{fixed}
+use Rattle.wire.proofs.Bes.{ruled-not, ruled-is}
 use borrow.Author.Needs.{needs}
 use Rattle.wire.proofs.read_u64.Statement.{statement}
 use Rattle.wire.proofs.read_u64.Tie as tie
@@ -10,13 +11,15 @@ misfit-requires : tie.Need-misfit-requires
 misfit-requires c κs = search needs
 
 returns : tie.Need-returns
-returns c = c .misfit .ensures ∙ fixed-not _ _ _ (c .before .if1 .taken)
+unfolding fixed
+returns c = c .misfit .ensures ∙ ruled-not _ _ _ _ (c .before .if1 .taken)
 
 be-value-requires : tie.Need-be-value-requires
 be-value-requires c κs = search needs
 
 returns-2 : tie.Need-returns-2
-returns-2 c = fixed-is _ _ _ _ (c .before .if1 .left) (c .be-value .ensures .0)
+unfolding fixed
+returns-2 c = ruled-is _ _ _ _ _ (c .before .if1 .left) (c .be-value .ensures .0)
 
 pub read-u64-spec : {M : Type 1} → statement M
 read-u64-spec = tie.close (tie.spec misfit-requires returns be-value-requires returns-2)

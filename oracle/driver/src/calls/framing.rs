@@ -1,0 +1,52 @@
+//! Framing and the writing of entries: `frame`, `one`, `rewrite`, `entry`, `raw`.
+
+use meshcop::tlv::TlvEntry;
+
+use super::value;
+use crate::answer::{Answer, Found};
+use crate::framed::{self, PlacedEntry};
+use crate::sizes;
+use crate::words::bytes_word;
+
+pub fn frame(dataset: &[u8]) -> Answer {
+    value(entries_words(&framed::read_dataset(dataset)?.entries))
+}
+
+/// The count, then `type:start:header:length` for each.
+pub fn entries_words(entries: &[PlacedEntry]) -> String {
+    let mut words = entries.len().to_string();
+    for entry in entries {
+        words += &format!(" {}:{}:{}:{}", entry.ty, entry.start, entry.header, entry.value.len());
+    }
+    words
+}
+
+pub fn one(bytes: &[u8]) -> Answer {
+    let (entry, _) = framed::first_entry(bytes)?;
+    value(format!("{} {} {}", entry.ty, entry.header, entry.value.len()))
+}
+
+pub fn rewrite(dataset: &[u8], cap: u64) -> Answer {
+    let read = framed::read_dataset(dataset)?;
+    let written = read.dataset.to_bytes().expect("no value of a dataset of 8,192 bytes is over 65,535");
+    sizes::test_room(&written, cap)?;
+    value(bytes_word(&written))
+}
+
+pub fn entry(ty: u8, bytes: Vec<u8>, cap: u64) -> Answer {
+    let mut written = Vec::new();
+    TlvEntry::new(ty, bytes).encode(&mut written).map_err(framed::refusal_of_tlv)?;
+    sizes::test_room(&written, cap)?;
+    value(bytes_word(&written))
+}
+
+pub fn raw(ty: u8, bytes: &[u8]) -> Answer {
+    let read = framed::read_dataset(bytes)?;
+    let Some(found) = read.dataset.raw(ty) else {
+        return Ok(Found::Absent);
+    };
+    let last = read.entries.iter().rev().find(|entry| entry.ty == ty).expect("the Rust found one");
+    let offset = last.start + last.header;
+    assert_eq!(found, &bytes[offset..offset + found.len()], "the Rust's value stands at the derived place");
+    value(format!("{} @{offset}", bytes_word(found)))
+}

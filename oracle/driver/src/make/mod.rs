@@ -1,0 +1,161 @@
+//! The request maker: an endless sequence of requests for each seed, any part of which can be made by itself.
+
+use std::io::{self, Write};
+
+use crate::random::Random;
+
+mod base16;
+mod caps;
+mod damage;
+mod datasets;
+mod framing;
+mod listing;
+mod short;
+mod texts;
+
+use short::{Deck, Family};
+
+/// How the requests of one call are made. Words are those after the call's name.
+pub struct Maker {
+    pub call: &'static str,
+    /// How often the call is drawn, against the others.
+    pub share: usize,
+    /// One random request.
+    pub random: fn(&mut Random) -> String,
+    /// Requests around each boundary.
+    pub edges: fn(&mut Random) -> Vec<String>,
+    /// Short inputs, all of them.
+    pub short: &'static [Family],
+}
+
+const MAKERS: &[Maker] = &[
+    framing::FRAME,
+    framing::ONE,
+    framing::REWRITE,
+    framing::ENTRY,
+    framing::RAW,
+    base16::HEXBYTES,
+    base16::HEXFRAME,
+    listing::FLAT,
+    listing::HEXFLAT,
+    listing::PROG,
+];
+
+/// Where a request comes from.
+#[derive(Clone, Copy, PartialEq)]
+enum Source {
+    Short,
+    Edge,
+    Random,
+}
+
+/// The sources of eight cases in a row. Short inputs and edges come once each; when they are used up, random ones follow.
+#[rustfmt::skip]
+const PATTERN: [Source; 8] = [
+    Source::Short, Source::Edge, Source::Random, Source::Edge,
+    Source::Short, Source::Edge, Source::Short, Source::Edge,
+];
+
+/// One random request in so many is spoilt, most often into one that cannot be read.
+const SPOILT_ONCE_IN: usize = 80;
+
+/// Families up to this size come first, so that a short run sees all of them.
+const SMALL_FAMILY: usize = 10_000;
+
+/// All requests of a seed, by case number.
+pub struct Sequence {
+    seed: u64,
+    makers: Vec<&'static Maker>,
+    small_families: Deck,
+    large_families: Deck,
+    edges: Vec<String>,
+}
+
+impl Sequence {
+    /// The requests of the named calls, or of all if none is named; an error is the name of an unknown one.
+    pub fn new<'a>(seed: u64, calls: &[&'a str]) -> Result<Self, &'a str> {
+        if let Some(unknown) = calls.iter().find(|call| MAKERS.iter().all(|maker| maker.call != **call)) {
+            return Err(unknown);
+        }
+        let wanted = |maker: &&Maker| calls.is_empty() || calls.contains(&maker.call);
+        let makers: Vec<_> = MAKERS.iter().filter(wanted).collect();
+        Ok(Self {
+            seed,
+            small_families: Deck::of(&makers, |family| family.size <= SMALL_FAMILY),
+            large_families: Deck::of(&makers, |family| family.size > SMALL_FAMILY),
+            edges: all_edges(seed, &makers),
+            makers,
+        })
+    }
+
+    /// The requests around the boundaries; they do not depend on a case number.
+    pub fn edges(&self) -> &[String] {
+        &self.edges
+    }
+
+    pub fn request(&self, case: u64) -> String {
+        let round = (case / PATTERN.len() as u64) as usize;
+        let place = (case % PATTERN.len() as u64) as usize;
+        let source = PATTERN[place];
+        let turns_in = |cases: &[Source]| cases.iter().filter(|other| **other == source).count();
+        let turn = round * turns_in(&PATTERN) + turns_in(&PATTERN[..place]);
+        let listed = match source {
+            Source::Short => self.short(turn),
+            Source::Edge => self.edge(turn),
+            Source::Random => None,
+        };
+        listed.unwrap_or_else(|| self.random(case))
+    }
+
+    fn short(&self, turn: usize) -> Option<String> {
+        match turn.checked_sub(self.small_families.size()) {
+            None => self.small_families.request(turn),
+            Some(later) => self.large_families.request(later),
+        }
+    }
+
+    fn edge(&self, turn: usize) -> Option<String> {
+        let place = short::spread(turn, self.edges.len())?;
+        self.edges.get(place).cloned()
+    }
+
+    fn random(&self, case: u64) -> String {
+        let mut random = Random::of_case(self.seed, case);
+        let maker = self.draw(&mut random);
+        let request = request_of(maker.call, &(maker.random)(&mut random));
+        if random.once_in(SPOILT_ONCE_IN) { damage::spoil(&mut random, &request) } else { request }
+    }
+
+    fn draw(&self, random: &mut Random) -> &'static Maker {
+        let mut drawn = random.below(self.makers.iter().map(|maker| maker.share).sum());
+        for maker in &self.makers {
+            match drawn.checked_sub(maker.share) {
+                None => return maker,
+                Some(rest) => drawn = rest,
+            }
+        }
+        unreachable!("drawn below the sum of the shares")
+    }
+}
+
+fn all_edges(seed: u64, makers: &[&Maker]) -> Vec<String> {
+    let mut edges = Vec::new();
+    for maker in makers {
+        let mut random = Random::of_case(seed, u64::MAX);
+        edges.extend((maker.edges)(&mut random).iter().map(|words| request_of(maker.call, words)));
+        edges.extend(damage::wrong_counts(maker.call, &(maker.random)(&mut random)));
+    }
+    edges
+}
+
+fn request_of(call: &str, words: &str) -> String {
+    format!("{call} {words}")
+}
+
+/// `driver make`: the requests of some cases in a row, a line each.
+pub fn make(sequence: &Sequence, first: u64, cases: u64, mut requests: impl Write) -> io::Result<()> {
+    for case in first..first.saturating_add(cases) {
+        writeln!(requests, "{}", sequence.request(case))?;
+    }
+    requests.flush()
+}

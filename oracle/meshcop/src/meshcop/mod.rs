@@ -1,0 +1,3 @@
+//! The Rust's `meshcop` module, of which only the diagnostic values are here.
+
+pub mod diag;
