@@ -5,7 +5,7 @@ use mathlib.Core.List.{List, [], _∷_, _++_}
 use lib.ListN.{length}
 use lib.Dec.{ltb, eqb}
 use Rattle.refusal.specs.Sizes.{mostBytes}
-use Rattle.refusal.specs.Answer.{pick, Answer, given, refused, onGiven}
+use Rattle.refusal.specs.Answer.{pick, Answer, given, absent, refused, onGiven}
 use Rattle.refusal.specs.Number.{refusalAnswer}
 use Rattle.wire.specs.declared.Read16.{Read16}
 use Rattle.wire.specs.declared.Read16.the-variants as v16
@@ -42,12 +42,15 @@ bytesOf (suc k) x = bytesOf k (x / 256) ++ (x % 256 ∷ [])
 
 abbrev pub answer16 : Read16 → Answer ℕ
 answer16 (v16.Value x) = given x
+answer16 v16.Absent = absent
 answer16 (v16.Refused r) = refusalAnswer r
 
 abbrev pub answer32 : Read32 → Answer ℕ
 answer32 (v32.Value x) = given x
+answer32 v32.Absent = absent
 answer32 (v32.Refused r) = refusalAnswer r
 
 abbrev pub answer64 : Read64 → Answer ℕ
 answer64 (v64.Value x) = given x
+answer64 v64.Absent = absent
 answer64 (v64.Refused r) = refusalAnswer r

@@ -8,18 +8,22 @@ ghost use Rattle.refusal.specs.Number.{refusalAnswer};
 ghost use Rattle.refusal.specs.Output.{put, placing, placed};
 ghost use Rattle.wire.specs.Be.{be, wrongLength, fixed, bytesOf, answer16, answer32, answer64};
 
+// A number that was read. `Absent` is for the queries that find no value to read.
 pub enum Read16 {
     Value(u16),
+    Absent,
     Refused(Refusal),
 }
 
 pub enum Read32 {
     Value(u32),
+    Absent,
     Refused(Refusal),
 }
 
 pub enum Read64 {
     Value(u64),
+    Absent,
     Refused(Refusal),
 }
 
