@@ -1,0 +1,6 @@
+pub mod Digits
+pub mod Scans
+pub mod Texts
+pub mod Pairs
+pub mod Decodes
+pub mod RoundTrips

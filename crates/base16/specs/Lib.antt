@@ -1,0 +1,2 @@
+pub mod Base16
+pub mod Loops

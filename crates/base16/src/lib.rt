@@ -1,0 +1,135 @@
+// Base 16 (RFC 4648, section 8): hex text to bytes and bytes to hex text.
+use refusal::Fault;
+use refusal::Refusal;
+use refusal::Written;
+ghost use mathlib.Core.Path.{_≡_};
+ghost use mathlib.Core.Bool.{true};
+ghost use Prim.Native.Nat.{_*_, _≤_, _<_};
+ghost use lib.ListN.{length};
+ghost use Rattle.refusal.specs.Answer.{given, refused};
+ghost use Rattle.refusal.specs.Number.{faultNumber};
+ghost use Rattle.refusal.specs.Output.{output, emit, put, writtenAnswer};
+ghost use Rattle.base16.specs.Base16.{digit, decoded, hexText};
+ghost use Rattle.base16.specs.Loops.{isDigit, valueOf, allDigits, firstBad, paired};
+
+fn is_digit(c: u8) -> bool
+    ensures { λ r. ⌜ r ≡ isDigit c ⌝ }
+{
+    match c {
+        b'0'..=b'9' | b'a'..=b'f' | b'A'..=b'F' => true,
+        _ => false,
+    }
+}
+
+// Whether every character is a digit. `&` in place of an early return lets the compiler take many characters at once.
+fn all_digits(text: &[u8]) -> bool
+    ensures { λ r. ⌜ r ≡ allDigits (now (text .entry)) ⌝ }
+{
+    let mut good = true;
+    let mut i = 0;
+    while i < text.len() {
+        good = good & is_digit(text[i]);
+        i += 1;
+    }
+    good
+}
+
+// The index of the first character that is no digit, or the length where each is one.
+fn first_bad(text: &[u8]) -> usize
+    ensures { λ r. ⌜ r ≡ firstBad 0 (now (text .entry)) ⌝ }
+{
+    let mut i = 0;
+    while i < text.len() {
+        if !is_digit(text[i]) {
+            return i;
+        }
+        i += 1;
+    }
+    i
+}
+
+// The value of a digit. A letter's last four bits, in both cases, are its value less 9.
+fn value(c: u8) -> u8
+    requires { ⌜ isDigit c ≡ true ⌝ }
+    ensures { λ r. ⌜ (r ≡ valueOf c) × (r < 16) ⌝ }
+{
+    if c <= b'9' { c - b'0' } else { c % 16 + 9 }
+}
+
+// The bytes of a text of digits, two to a byte, at the start of out.
+fn put_bytes(text: &[u8], out: &mut [u8])
+    requires { ⌜ (allDigits (now text) ≡ true) × (length (now text) ≤ 2 * length (now out)) ⌝ }
+    ensures { λ _. ⌜ now (out .exit) ≡ put (now (out .entry)) 0 (paired (now (text .entry))) ⌝ }
+{
+    let n = text.len() / 2;
+    let mut i = 0;
+    while i < n {
+        out[i] = value(text[2 * i]) * 16 + value(text[2 * i + 1]);
+        i += 1;
+    }
+}
+
+// A refusal, at a place of the one input.
+fn refuse(fault: Fault, place: usize) -> Written
+    ensures { λ r. ⌜ writtenAnswer r ≡ refused (faultNumber fault) place 0 ⌝ }
+{
+    Written::Refused(Refusal {
+        fault,
+        place,
+        input: 0,
+    })
+}
+
+// The bytes that hex text stands for, at the start of out. Refusals: 1, 7, 8, 11.
+pub fn decode(text: &[u8], out: &mut [u8]) -> Written
+    ensures { λ r. ⌜ output (writtenAnswer r) (now (out .exit)) ≡ emit (decoded (now (text .entry))) (now (out .entry)) ⌝ }
+{
+    if text.len() > refusal::MAX_DIGITS {
+        return refuse(Fault::TooLarge, 0);
+    }
+    if text.len() % 2 == 1 {
+        return refuse(Fault::OddDigits, 0);
+    }
+    if !all_digits(text) {
+        return refuse(Fault::NotHex, first_bad(text));
+    }
+    let n = text.len() / 2;
+    if n > out.len() {
+        return refuse(Fault::NoRoom, 0);
+    }
+    put_bytes(text, out);
+    Written::Bytes(n)
+}
+
+// The character of a value below 16.
+fn digit_of(v: u8) -> u8
+    requires { ⌜ v < 16 ⌝ }
+    ensures { λ r. ⌜ r ≡ digit v ⌝ }
+{
+    if v < 10 { b'0' + v } else { b'a' - 10 + v }
+}
+
+// The text of bytes, two digits to a byte, at the start of out.
+fn put_text(bytes: &[u8], out: &mut [u8])
+    requires { ⌜ 2 * length (now bytes) ≤ length (now out) ⌝ }
+    ensures { λ _. ⌜ now (out .exit) ≡ put (now (out .entry)) 0 (hexText (now (bytes .entry))) ⌝ }
+{
+    let mut i = 0;
+    while i < bytes.len() {
+        let b = bytes[i];
+        out[2 * i] = digit_of(b / 16);
+        out[2 * i + 1] = digit_of(b % 16);
+        i += 1;
+    }
+}
+
+// The hex text of bytes, in lower case, at the start of out. Refusal: 11.
+pub fn encode(bytes: &[u8], out: &mut [u8]) -> Written
+    ensures { λ r. ⌜ output (writtenAnswer r) (now (out .exit)) ≡ emit (given (hexText (now (bytes .entry)))) (now (out .entry)) ⌝ }
+{
+    if bytes.len() > out.len() / 2 {
+        return refuse(Fault::NoRoom, 0);
+    }
+    put_text(bytes, out);
+    Written::Bytes(2 * bytes.len())
+}
