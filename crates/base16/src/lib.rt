@@ -1,13 +1,11 @@
 // Base 16 (RFC 4648, section 8): hex text to bytes and bytes to hex text.
 use refusal::Fault;
-use refusal::Refusal;
 use refusal::Written;
 ghost use mathlib.Core.Path.{_≡_};
 ghost use mathlib.Core.Bool.{true};
 ghost use Prim.Native.Nat.{_*_, _≤_, _<_};
 ghost use lib.ListN.{length};
-ghost use Rattle.refusal.specs.Answer.{given, refused};
-ghost use Rattle.refusal.specs.Number.{faultNumber};
+ghost use Rattle.refusal.specs.Answer.{given};
 ghost use Rattle.refusal.specs.Output.{output, emit, put, writtenAnswer};
 ghost use Rattle.base16.specs.Base16.{digit, decoded, hexText};
 ghost use Rattle.base16.specs.Loops.{isDigit, valueOf, allDigits, firstBad, paired};
@@ -69,33 +67,22 @@ fn put_bytes(text: &[u8], out: &mut [u8])
     }
 }
 
-// A refusal, at a place of the one input.
-fn refuse(fault: Fault, place: usize) -> Written
-    ensures { λ r. ⌜ writtenAnswer r ≡ refused (faultNumber fault) place 0 ⌝ }
-{
-    Written::Refused(Refusal {
-        fault,
-        place,
-        input: 0,
-    })
-}
-
 // The bytes that hex text stands for, at the start of out. Refusals: 1, 7, 8, 11.
 pub fn decode(text: &[u8], out: &mut [u8]) -> Written
     ensures { λ r. ⌜ output (writtenAnswer r) (now (out .exit)) ≡ emit (decoded (now (text .entry))) (now (out .entry)) ⌝ }
 {
     if text.len() > refusal::MAX_DIGITS {
-        return refuse(Fault::TooLarge, 0);
+        return refusal::refuse(Fault::TooLarge, 0);
     }
     if text.len() % 2 == 1 {
-        return refuse(Fault::OddDigits, 0);
+        return refusal::refuse(Fault::OddDigits, 0);
     }
     if !all_digits(text) {
-        return refuse(Fault::NotHex, first_bad(text));
+        return refusal::refuse(Fault::NotHex, first_bad(text));
     }
     let n = text.len() / 2;
     if n > out.len() {
-        return refuse(Fault::NoRoom, 0);
+        return refusal::refuse(Fault::NoRoom, 0);
     }
     put_bytes(text, out);
     Written::Bytes(n)
@@ -128,7 +115,7 @@ pub fn encode(bytes: &[u8], out: &mut [u8]) -> Written
     ensures { λ r. ⌜ output (writtenAnswer r) (now (out .exit)) ≡ emit (given (hexText (now (bytes .entry)))) (now (out .entry)) ⌝ }
 {
     if bytes.len() > out.len() / 2 {
-        return refuse(Fault::NoRoom, 0);
+        return refusal::refuse(Fault::NoRoom, 0);
     }
     put_text(bytes, out);
     Written::Bytes(2 * bytes.len())

@@ -1,6 +1,8 @@
 // What every call of the library may refuse, under document 01's numbers, and the sizes that bound its inputs.
 ghost use mathlib.Core.Path.{_≡_};
+ghost use Rattle.refusal.specs.Answer.{refused};
 ghost use Rattle.refusal.specs.Number.{faultNumber};
+ghost use Rattle.refusal.specs.Output.{writtenAnswer};
 
 // A dataset, payload, change list or bare value has at most so many bytes, and hex text twice as many digits.
 pub const MAX_BYTES: usize = 8192;
@@ -38,6 +40,17 @@ pub struct Refusal {
 pub enum Written {
     Bytes(usize),
     Refused(Refusal),
+}
+
+// A refusal of a call that writes, at a place of its first input.
+pub fn refuse(fault: Fault, place: usize) -> Written
+    ensures { λ r. ⌜ writtenAnswer r ≡ refused (faultNumber fault) place 0 ⌝ }
+{
+    Written::Refused(Refusal {
+        fault: fault,
+        place: place,
+        input: 0,
+    })
 }
 
 impl Fault {

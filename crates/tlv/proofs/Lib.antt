@@ -3,3 +3,4 @@ pub mod Tally
 pub mod Encodes
 pub mod Lasts
 pub mod Kept
+pub mod Sets

@@ -5,10 +5,10 @@ use mathlib.Core.Bool.{Bool, true, not}
 use mathlib.Core.List.{List, [], _∷_, _++_}
 use lib.ListN.{length}
 use lib.Dec.{leb, ltb, eqb}
-use Rattle.refusal.specs.Sizes.{mostShort, mostValue}
-use Rattle.refusal.specs.Answer.{pick, Answer, given, absent, refused, onGiven}
+use Rattle.refusal.specs.Sizes.{mostBytes, mostEntries, mostShort, mostValue}
+use Rattle.refusal.specs.Answer.{pick, Answer, given, absent, refused, thenDo, onGiven}
 use Rattle.refusal.specs.Output.{Placed, placing, placed}
-use Rattle.tlv.specs.Entries.{Entry}
+use Rattle.tlv.specs.Entries.{Entry, Content, content, contents}
 use Rattle.tlv.specs.Limits.{framed}
 use Rattle.tlv.specs.declared.Choice.{Choice}
 use Rattle.tlv.specs.declared.Choice.the-variants as c
@@ -36,22 +36,35 @@ placedIf absent at out = placing at out
 placedIf (refused n p i) at out = placing at out
 
 -- entries one after the other
-unfoldable pub encodeAll : List Entry → List ℕ
+unfoldable pub encodeAll : List Content → List ℕ
 encodeAll [] = []
-encodeAll (e ∷ es) = encode (e .ty) (e .value) ++ encodeAll es
+encodeAll (c ∷ cs) = encode (c .ty) (c .value) ++ encodeAll cs
 
 -- which entries a choice keeps
 unfoldable pub keepsOf : Choice → (ty : ℕ) → Bool
 keepsOf c.All t = true
 keepsOf (c.Without x) t = not (eqb t x)
 
-unfoldable pub kept : Choice → List Entry → List Entry
+unfoldable pub kept : Choice → List Content → List Content
 kept c [] = []
-kept c (e ∷ es) = pick (keepsOf c (e .ty)) (e ∷ kept c es) (kept c es)
-
-unfoldable pub keptBytes : Choice → List Entry → List ℕ
-keptBytes c es = encodeAll (kept c es)
+kept c (x ∷ xs) = pick (keepsOf c (x .ty)) (x ∷ kept c xs) (kept c xs)
 
 -- the entries of s that are kept, written afresh. The result is never longer than s, so 10 cannot occur
 unfoldable pub rewritten : Choice → List ℕ → Answer (List ℕ)
-rewritten c s = onGiven (keptBytes c) (framed 0 s)
+rewritten c s = onGiven (λ (es : List Entry). encodeAll (kept c (contents es))) (framed 0 s)
+
+-- "Setting a type removes every entry of it and puts the new one last"
+unfoldable pub setLast : (ty : ℕ) → (value : List ℕ) → List Content → List Content
+setLast t v cs = kept (c.Without t) cs ++ (content t v ∷ [])
+
+-- entries as they are written, where they keep the sizes of a dataset: 10, "result over the sizes above"
+unfoldable pub sized : List Content → Answer (List ℕ)
+sized cs =
+    pick (ltb mostBytes (length (encodeAll cs))) (refused 10 0 0)
+    (pick (ltb mostEntries (length cs)) (refused 10 0 0) (given (encodeAll cs)))
+
+-- s with a type set: 1, 2, 3, then 13, 10
+unfoldable pub withSet : (ty : ℕ) → (value : List ℕ) → List ℕ → Answer (List ℕ)
+withSet t v s =
+    thenDo (framed 0 s)
+    (λ (es : List Entry). pick (ltb mostValue (length v)) (refused 13 0 0) (sized (setLast t v (contents es))))

@@ -38,6 +38,18 @@ pub record Entry : Type 0 where
 abbrev pub entry : (place ty start : ℕ) → (value : List ℕ) → Entry
 entry p t a v = record { place = p; ty = t; start = a; value = v }
 
+-- what an entry says, wherever it stands
+pub record Content : Type 0 where
+  pub ty : ℕ
+  pub value : List ℕ
+
+abbrev pub content : (ty : ℕ) → (value : List ℕ) → Content
+content t v = record { ty = t; value = v }
+
+unfoldable pub contents : List Entry → List Content
+contents [] = []
+contents (e ∷ es) = content (e .ty) (e .value) ∷ contents es
+
 -- how the entries end: with the input, or before the entry that is cut short, at its first byte
 pub data Stop : Type 0 where
   clean : Stop

@@ -3,14 +3,15 @@ use refusal::Fault;
 use refusal::Refusal;
 use refusal::Written;
 ghost use mathlib.Core.Path.{_≡_};
-ghost use Prim.Native.Nat.{_+_, _≤_};
+ghost use Prim.Native.Nat.{_+_, _*_, _≤_};
 ghost use lib.ListN.{length};
 ghost use Rattle.refusal.specs.Sizes.{mostBytes, mostValue};
 ghost use Rattle.refusal.specs.Output.{output, emit, writtenAnswer, put, placing};
-ghost use Rattle.tlv.specs.Entries.{first, framing};
+ghost use Rattle.tlv.specs.Entries.{first, contents, framing};
 ghost use Rattle.tlv.specs.Limits.{count};
 ghost use Rattle.tlv.specs.Last.{lastSpot, lastValue};
-ghost use Rattle.tlv.specs.Encode.{header, sizeOf, encoded, placedIf, keepsOf, keptBytes, rewritten};
+ghost use Rattle.tlv.specs.Encode.{header, sizeOf, encoded, placedIf, encodeAll, keepsOf, kept, rewritten, withSet};
+ghost use Rattle.tlv.specs.Loops.{extentOf};
 ghost use Rattle.tlv.specs.Place.{frameAt};
 ghost use Rattle.tlv.specs.Answers.{countedAnswer, foundAnswer, parsedAnswer, headOf};
 ghost use Rattle.tlv.specs.declared.Choice.the-variants.{All};
@@ -55,6 +56,12 @@ pub enum Found {
 pub enum Choice {
     All,
     Without(u8),
+}
+
+// The bytes that some entries take as they are written, and their number.
+struct Extent {
+    bytes: usize,
+    entries: usize,
 }
 
 // What stands at a place of s: the step of every walk over entries.
@@ -252,18 +259,10 @@ pub fn write_entry(ty: u8, value: &[u8], out: &mut [u8]) -> Written
     ensures { λ r. ⌜ output (writtenAnswer r) (now (out .exit)) ≡ emit (encoded ty (now (value .entry))) (now (out .entry)) ⌝ }
 {
     if value.len() > MAX_EXTENDED_TLV_LENGTH {
-        return Written::Refused(Refusal {
-            fault: Fault::ValueTooLong,
-            place: 0,
-            input: 0,
-        });
+        return refusal::refuse(Fault::ValueTooLong, 0);
     }
     if size_of(value.len()) > out.len() {
-        return Written::Refused(Refusal {
-            fault: Fault::NoRoom,
-            place: 0,
-            input: 0,
-        });
+        return refusal::refuse(Fault::NoRoom, 0);
     }
     Written::Bytes(put_entry(ty, value, out, 0))
 }
@@ -277,23 +276,29 @@ fn keeps(c: Choice, t: u8) -> bool
     }
 }
 
-// How many bytes the entries that are kept take.
-fn kept_len(s: &[u8], c: Choice) -> usize
+// How many bytes the entries that are kept take, and how many they are.
+fn kept_extent(s: &[u8], c: Choice) -> Extent
     requires { ⌜ length (now s) ≤ mostBytes ⌝ }
-    ensures { λ r. ⌜ r ≡ length (keptBytes c (framing (now (s .entry)) .entries)) ⌝ }
+    ensures { λ r. ⌜ (r ≡ extentOf (kept c (contents (framing (now (s .entry)) .entries)))) × (r .bytes ≤ 2 * length (now (s .entry))) ⌝ }
 {
-    let mut need: usize = 0;
+    let mut bytes: usize = 0;
+    let mut entries: usize = 0;
     let mut at: usize = 0;
     loop {
         match frame_at(s, at) {
             Frame::Entry { ty, start, len } => {
+                let end = start + len;
                 if keeps(c, ty) {
-                    need += size_of(len);
+                    bytes += size_of(len);
+                    entries += 1;
                 }
-                at = start + len;
+                at = end;
             }
             _ => {
-                return need;
+                return Extent {
+                    bytes: bytes,
+                    entries: entries,
+                };
             }
         }
     }
@@ -301,8 +306,8 @@ fn kept_len(s: &[u8], c: Choice) -> usize
 
 // The entries that are kept, at the start of out.
 fn put_kept(s: &[u8], c: Choice, out: &mut [u8])
-    requires { ⌜ (length (now s) ≤ mostBytes) × (length (keptBytes c (framing (now s) .entries)) ≤ length (now out)) ⌝ }
-    ensures { λ _. ⌜ now (out .exit) ≡ put (now (out .entry)) 0 (keptBytes c (framing (now (s .entry)) .entries)) ⌝ }
+    requires { ⌜ (length (now s) ≤ mostBytes) × (length (encodeAll (kept c (contents (framing (now s) .entries)))) ≤ length (now out)) ⌝ }
+    ensures { λ _. ⌜ now (out .exit) ≡ put (now (out .entry)) 0 (encodeAll (kept c (contents (framing (now (s .entry)) .entries)))) ⌝ }
 {
     let mut to: usize = 0;
     let mut at: usize = 0;
@@ -332,13 +337,10 @@ pub fn write_kept(s: &[u8], c: Choice, out: &mut [u8]) -> Written
         }
         Counted::Entries(_) => {}
     }
-    let need = kept_len(s, c);
+    let extent = kept_extent(s, c);
+    let need = extent.bytes;
     if need > out.len() {
-        return Written::Refused(Refusal {
-            fault: Fault::NoRoom,
-            place: 0,
-            input: 0,
-        });
+        return refusal::refuse(Fault::NoRoom, 0);
     }
     put_kept(s, c, out);
     Written::Bytes(need)
@@ -349,4 +351,33 @@ pub fn rewrite(s: &[u8], out: &mut [u8]) -> Written
     ensures { λ r. ⌜ output (writtenAnswer r) (now (out .exit)) ≡ emit (rewritten All (now (s .entry))) (now (out .entry)) ⌝ }
 {
     write_kept(s, Choice::All, out)
+}
+
+// The entries of s with every one of a type replaced by one new value at the end, at the start of out. Refusals: 1, 2, 3, 13, 10, 11.
+pub fn set_last(s: &[u8], ty: u8, value: &[u8], out: &mut [u8]) -> Written
+    ensures { λ r. ⌜ output (writtenAnswer r) (now (out .exit)) ≡ emit (withSet ty (now (value .entry)) (now (s .entry))) (now (out .entry)) ⌝ }
+{
+    match count_entries(s, 0) {
+        Counted::Refused(r) => {
+            return Written::Refused(r);
+        }
+        Counted::Entries(_) => {}
+    }
+    if value.len() > MAX_EXTENDED_TLV_LENGTH {
+        return refusal::refuse(Fault::ValueTooLong, 0);
+    }
+    let rest = kept_extent(s, Choice::Without(ty));
+    let end = rest.bytes;
+    let need = end + size_of(value.len());
+    if need > refusal::MAX_BYTES {
+        return refusal::refuse(Fault::ResultTooLarge, 0);
+    }
+    if rest.entries >= refusal::MAX_ENTRIES {
+        return refusal::refuse(Fault::ResultTooLarge, 0);
+    }
+    if need > out.len() {
+        return refusal::refuse(Fault::NoRoom, 0);
+    }
+    put_kept(s, Choice::Without(ty), out);
+    Written::Bytes(put_entry(ty, value, out, end))
 }

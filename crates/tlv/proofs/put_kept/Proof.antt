@@ -11,19 +11,18 @@ use Rattle.refusal.specs.Output.{put}
 use Rattle.laws.proofs.Parts.{length-part}
 use Rattle.laws.proofs.Puts.{put-none, put-then}
 use Rattle.laws.proofs.Emits.{placed-next, placed-left}
-use Rattle.tlv.specs.Entries.{framing}
-use Rattle.tlv.specs.Encode.{keptBytes}
+use Rattle.tlv.specs.Encode.{encodeAll}
 use Rattle.tlv.proofs.Walks.{from, turn-entries, turn-none, turn-inside}
 use Rattle.tlv.proofs.Encodes.{entry-placed}
-use Rattle.tlv.proofs.Kept.{start-bytes, end-bytes, turn-keep, turn-skip, size-part, length-keep}
+use Rattle.tlv.proofs.Kept.{keptFrom, kept-start, kept-end, encode-none, turn-skip, bytes-keep, size-part, length-keep}
 use Rattle.tlv.proofs.put_kept.Statement.{statement}
 use Rattle.tlv.proofs.put_kept.Tie as tie
 
 abbrev Inv-loop : tie.InvT-loop
 Inv-loop s c out₀ to₀ at₀ out to at =
     (at ≤ length s) × (length out ≡ length out₀)
-    × (to + length (keptBytes c (from s at .entries)) ≡ length (keptBytes c (framing s .entries)))
-    × (put out to (keptBytes c (from s at .entries)) ≡ put out₀ 0 (keptBytes c (framing s .entries)))
+    × (to + length (encodeAll (keptFrom c s at)) ≡ length (encodeAll (keptFrom c s 0)))
+    × (put out to (encodeAll (keptFrom c s at)) ≡ put out₀ 0 (encodeAll (keptFrom c s 0)))
 
 abbrev μ-loop : tie.MeasureT-loop
 μ-loop s c out₀ to₀ at₀ out to at = length s - at
@@ -32,8 +31,8 @@ loop-holds : tie.Need-loop-holds Inv-loop μ-loop
 loop-holds c = (
   search needs,
   refl,
-  zero-add _ ∙ ap length (start-bytes _ _),
-  ap (put _ _) (start-bytes _ _),
+  zero-add _,
+  refl,
 )
 
 frame-at-requires : tie.Need-frame-at-requires Inv-loop μ-loop
@@ -82,7 +81,7 @@ loop-again c =
     let start = h .before .before .before .before in
     let a = t .ty .given .0 .1 .0 in
     let n = t .ty .given .0 .1 .1 .0 in
-    let room = start .pre .1 in
+    let room = rw (← kept-start _ _) at (start .pre .1) in
     let short = length-part (start .args .s .now) a n (inside .1) in
     let size = size-part (start .args .s .now) (t .ty .given .0 .0) a n (inside .1) in
     let more = length-keep _ _ _ _ _ _ entries (inside .1) kept in
@@ -92,7 +91,7 @@ loop-again c =
       inside .1,
       k .put-entry .kept .1 .1 .0 ∙ h .before .loop .inv .1,
       omega arith,
-      put-then _ _ _ _ _ _ left next ∙ ap (put _ _) (sym (turn-keep _ _ _ _ _ n entries kept)) ∙ h .before .loop .inv .3,
+      put-then _ _ _ _ _ _ left next ∙ ap (put _ _) (sym (bytes-keep _ _ _ _ _ n entries kept)) ∙ h .before .loop .inv .3,
     )
 
 loop-less-2 : tie.Need-loop-less-2 Inv-loop μ-loop
@@ -105,11 +104,12 @@ loop-again-2 c =
     let t = c .before .before .before in
     let h = t .before .before in
     let found = h .frame-at .ensures in
-    let skip = turn-skip _ _ _ _ _ (t .ty .given .0 .1 .1 .0) (turn-entries _ _ _ found _ _ _ (t .ty .given .1)) (sym (c .before .keeps .ensures) ∙ c .if1 .left) in (
+    let skip = turn-skip _ _ _ _ _ (t .ty .given .0 .1 .1 .0) (turn-entries _ _ _ found _ _ _ (t .ty .given .1)) (sym (c .before .keeps .ensures) ∙ c .if1 .left) in
+    let same = ap encodeAll skip in (
       turn-inside _ _ _ found _ _ _ (t .ty .given .1) .1,
       h .before .loop .inv .1,
-      omega (arith, ap length skip),
-      ap (put _ _) (sym skip) ∙ h .before .loop .inv .3,
+      omega (arith, ap length same),
+      ap (put _ _) (sym same) ∙ h .before .loop .inv .3,
     )
 
 same-length : tie.Need-same-length Inv-loop μ-loop
@@ -118,7 +118,7 @@ same-length c = c .before .before .loop .inv .1
 returns : tie.Need-returns Inv-loop μ-loop
 returns c =
     let none = turn-none _ _ _ (c .before .frame-at .ensures) (c .match .keys2) in
-    sym (put-none _ _) ∙ ap (put _ _) (sym (end-bytes _ _ _ none)) ∙ c .before .before .loop .inv .3
+    sym (put-none _ _) ∙ ap (put _ _) (sym (ap encodeAll (kept-end _ _ _ none) ∙ encode-none)) ∙ c .before .before .loop .inv .3 ∙ ap (put _ _) (ap encodeAll (kept-start _ _))
 
 pub put-kept-spec : {M : Type 1} → statement M
 put-kept-spec =

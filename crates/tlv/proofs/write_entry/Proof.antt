@@ -9,17 +9,24 @@ use borrow.Author.Needs.{needs}
 use Rattle.tlv.proofs.write_entry.Statement.{statement}
 use Rattle.tlv.proofs.write_entry.Tie as tie
 
+refuse-requires : tie.Need-refuse-requires
+refuse-requires c κs = search needs
+
 returns : tie.Need-returns
-returns c = emit-refused _ _ _ _ _ (encoded-too-long _ _ (c .if1 .taken))
+returns c = rw (c .refuse .ensures) (emit-refused _ _ _ _ _ (encoded-too-long _ _ (c .before .if1 .taken)))
 
 size-of-requires : tie.Need-size-of-requires
 size-of-requires c κs = search needs
 
+refuse-requires-2 : tie.Need-refuse-requires-2
+refuse-requires-2 c κs = search needs
+
 returns-2 : tie.Need-returns-2
 returns-2 c =
-    let k = c .before in
+    let k = c .before .before in
     let a = k .before .before .before .before .args in
-    emit-no-room _ _ _ (encoded-fits _ _ (k .before .if1 .left)) (omega (arith, length-encode (a .ty) (a .value .now), k .size-of .ensures))
+    rw (c .refuse2 .ensures)
+    (emit-no-room _ _ _ (encoded-fits _ _ (k .before .if1 .left)) (omega (arith, length-encode (a .ty) (a .value .now), k .size-of .ensures)))
 
 put-entry-requires : tie.Need-put-entry-requires
 put-entry-requires c κs = search needs
@@ -44,4 +51,12 @@ returns-3 c =
 pub write-entry-spec : {M : Type 1} → statement M
 write-entry-spec =
     tie.close
-    (tie.spec returns size-of-requires returns-2 put-entry-requires same-length returns-3)
+    (tie.spec
+    refuse-requires
+    returns
+    size-of-requires
+    refuse-requires-2
+    returns-2
+    put-entry-requires
+    same-length
+    returns-3)

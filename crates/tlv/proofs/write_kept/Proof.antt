@@ -8,10 +8,11 @@ use lib.ListN.{length}
 use Rattle.refusal.specs.Sizes.{mostBytes}
 use Rattle.refusal.specs.Answer.{given}
 use Rattle.laws.proofs.Emits.{emit-refused, emit-no-room, emit-done}
-use Rattle.tlv.specs.Entries.{framing}
-use Rattle.tlv.specs.Encode.{keptBytes, rewritten}
+use Rattle.tlv.specs.Entries.{contents, framing}
+use Rattle.tlv.specs.Encode.{encodeAll, kept, rewritten}
 use Rattle.tlv.specs.Answers.{countedAnswer}
 use Rattle.tlv.specs.declared.Choice.{Choice}
+use Rattle.tlv.specs.declared.Extent.{Extent}
 use Rattle.tlv.proofs.Tally.{answers-given, answers-refused, counted-short}
 use borrow.Author.Needs.{needs}
 use Rattle.tlv.proofs.write_kept.Statement.{statement}
@@ -25,7 +26,7 @@ module _ (c : tie.After-enum-told) where
   short : length (args .s) ≤ mostBytes
   short = counted-short _ _ _ (sym (ap countedAnswer (c .enum-told .given .1)) ∙ c .before .before .count-entries .ensures)
 
-  written : rewritten (args .c) (args .s) ≡ given (keptBytes (args .c) (framing (args .s) .entries))
+  written : rewritten (args .c) (args .s) ≡ given (encodeAll (kept (args .c) (contents (framing (args .s) .entries))))
   unfolding rewritten
   written = answers-given _ _ _ _ (sym (ap countedAnswer (c .enum-told .given .1)) ∙ c .before .before .count-entries .ensures)
 
@@ -44,14 +45,19 @@ returns c =
 enum-told : tie.Need-enum-told
 enum-told c = search needs
 
-kept-len-requires : tie.Need-kept-len-requires
-kept-len-requires c κs = short c
+kept-extent-requires : tie.Need-kept-extent-requires
+kept-extent-requires c κs = short c
+
+refuse-requires : tie.Need-refuse-requires
+refuse-requires c κs = search needs
 
 returns-2 : tie.Need-returns-2
-returns-2 c = emit-no-room _ _ _ (written (c .before .before)) (omega (arith, c .before .kept-len .ensures))
+returns-2 c =
+    let k = c .before .before in
+    rw (c .refuse .ensures) (emit-no-room _ _ _ (written (k .before)) (omega (arith, ap (λ (x : Extent). x .bytes) (k .kept-extent .ensures .0))))
 
 put-kept-requires : tie.Need-put-kept-requires
-put-kept-requires c κs = (short (c .before .before .before), omega (arith, c .before .before .kept-len .ensures))
+put-kept-requires c κs = (short (c .before .before .before), omega (arith, ap (λ (x : Extent). x .bytes) (c .before .before .kept-extent .ensures .0)))
 
 same-length : tie.Need-same-length
 same-length c = search needs
@@ -60,7 +66,8 @@ returns-3 : tie.Need-returns-3
 returns-3 c =
     let k = c .before .before in
     let z = k .before .before .before in
-    emit-done _ _ _ (written (z .before)) _ _ (z .kept-len .ensures) (k .put-kept .ensures) (omega (arith, z .kept-len .ensures))
+    let need = ap (λ (x : Extent). x .bytes) (z .kept-extent .ensures .0) in
+    emit-done _ _ _ (written (z .before)) _ _ need (k .put-kept .ensures) (omega arith)
 
 pub write-kept-spec : {M : Type 1} → statement M
 write-kept-spec =
@@ -70,7 +77,8 @@ write-kept-spec =
     enum-known-r
     returns
     enum-told
-    kept-len-requires
+    kept-extent-requires
+    refuse-requires
     returns-2
     put-kept-requires
     same-length
