@@ -5,7 +5,7 @@ use Prim.Native.Nat.{ℕ}
 use mathlib.Core.List.{List}
 use lib.Dec.{eqb}
 use Rattle.refusal.specs.Answer.{pick, Answer, given, absent, refused}
-use Rattle.refusal.specs.Number.{faultNumber, refusalAnswer}
+use Rattle.refusal.specs.Number.{faultNumber}
 use Rattle.refusal.specs.Output.{Output, output, writtenAnswer}
 use Rattle.refusal.specs.declared.Fault.{Fault}
 use Rattle.refusal.specs.declared.Fault.the-variants as f
@@ -60,18 +60,14 @@ refusalOf n p i = record { fault = faultOf n; place = p; input = i }
 pub refusal-back : (r : Refusal) → refusalOf (faultNumber (r .fault)) (r .place) (r .input) ≡ r
 refusal-back r = ap (λ (x : Fault). record { fault = x; place = r .place; input = r .input }) (fault-back (r .fault))
 
--- an answer of the code that is a value or a refusal: `make` and `Refused` are its two cases
-abbrev writtenOf : Answer ℕ → Written
-writtenOf (given n) = w.Bytes n
-writtenOf absent = w.Bytes 0
-writtenOf (refused n p i) = w.Refused (refusalOf n p i)
-
-written-back : (r : Written) → writtenOf (writtenAnswer r) ≡ r
-written-back (w.Bytes n) = refl
-written-back (w.Refused r) = ap w.Refused (refusal-back r)
+-- from an answer on paper back to the code's, by what makes each of its cases
+abbrev pub codeOf : {A R : Type 0} → (A → R) → R → (Refusal → R) → Answer A → R
+codeOf value nothing refusal (given x) = value x
+codeOf value nothing refusal absent = nothing
+codeOf value nothing refusal (refused n p i) = refusal (refusalOf n p i)
 
 pub written-tells : Tells writtenAnswer
-written-tells = tells writtenAnswer writtenOf written-back
+written-tells = tells writtenAnswer (codeOf w.Bytes (w.Bytes 0) w.Refused) (elim [ w.Bytes n ↦ refl | w.Refused r ↦ ap w.Refused (refusal-back r) ])
 
 -- the one equation that a writer's contract is fixes its answer and its output
 pub output-tells : (r q : Written) (o p : List ℕ) → output (writtenAnswer r) o ≡ output (writtenAnswer q) p → (r ≡ q) × (o ≡ p)

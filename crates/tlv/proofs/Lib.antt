@@ -4,3 +4,5 @@ pub mod Encodes
 pub mod Lasts
 pub mod Kept
 pub mod Sets
+pub mod Round
+pub mod Papers

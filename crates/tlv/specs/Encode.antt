@@ -1,6 +1,7 @@
 -- Entries as they are written: "Writing uses the short header to 254 and the long one from 255" (document 01).
 -- Assumes nothing.
-use Prim.Native.Nat.{ℕ, _+_, _/_, _%_}
+use mathlib.Core.Path.{_≡_}
+use Prim.Native.Nat.{ℕ, _+_, _/_, _%_, _<_}
 use mathlib.Core.Bool.{Bool, true, not}
 use mathlib.Core.List.{List, [], _∷_, _++_}
 use lib.ListN.{length}
@@ -39,6 +40,10 @@ placedIf (refused n p i) at out = placing at out
 unfoldable pub encodeAll : List Content → List ℕ
 encodeAll [] = []
 encodeAll (c ∷ cs) = encode (c .ty) (c .value) ++ encodeAll cs
+
+-- "no long header carried a length under 255": a value that starts 4 bytes after its entry is too long for a short header
+abbrev pub Shortest : Entry → Type 0
+Shortest e = e .start ≡ e .place + 4 → mostShort < length (e .value)
 
 -- which entries a choice keeps
 unfoldable pub keepsOf : Choice → (ty : ℕ) → Bool
