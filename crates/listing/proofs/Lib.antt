@@ -1,0 +1,10 @@
+pub mod Stores
+pub mod Callers
+pub mod Decimals
+pub mod Lines
+pub mod Counts
+pub mod Hexes
+pub mod Reports
+pub mod Fits
+pub mod Bounds
+pub mod Tells

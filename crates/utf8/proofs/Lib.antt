@@ -1,0 +1,4 @@
+pub mod Below
+pub mod Rule
+pub mod Firsts
+pub mod Places
