@@ -48,3 +48,12 @@ put-next src dst at i h =
 -- a run was stored, and ys is still to be
 pub put-then : (out left : List ℕ) (at next : ℕ) (xs ys : List ℕ) → left ≡ put out at xs → next ≡ at + length xs → put left next ys ≡ put out at (xs ++ ys)
 put-then out left at next xs ys l k = rw (l, k) (put-put xs out at ys)
+
+-- a byte that is stored by itself
+pub put-one : (out : List ℕ) (at b : ℕ) → put out at (b ∷ []) ≡ set out at b
+put-one out at b = put-byte out at b [] ∙ put-none (set out at b) (at + 1)
+
+-- a run was stored, and then b after it
+pub put-last : (out left : List ℕ) (at next : ℕ) (xs : List ℕ) (b : ℕ) → left ≡ put out at xs → next ≡ at + length xs
+    → set left next b ≡ put out at (xs ++ (b ∷ []))
+put-last out left at next xs b l k = sym (put-one left next b) ∙ put-then out left at next xs (b ∷ []) l k

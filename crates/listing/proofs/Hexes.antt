@@ -13,7 +13,7 @@ use Rattle.refusal.specs.Output.{output, emit}
 use Rattle.base16.specs.Base16.{decoded}
 use Rattle.base16.proofs.RoundTrips.{decoded-fits}
 use Rattle.listing.specs.Listing.{listed, listedHex}
-use Rattle.listing.proofs.Callers.{Refuses, itself, no-room, gave, refuses}
+use Rattle.laws.proofs.Callers.{Refuses, itself, no-room, gave, refuses}
 
 module _ (x out left : List ℕ) where
   -- the part from 0 to n

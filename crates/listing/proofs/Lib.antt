@@ -1,5 +1,3 @@
-pub mod Stores
-pub mod Callers
 pub mod Decimals
 pub mod Lines
 pub mod Counts

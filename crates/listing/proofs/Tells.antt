@@ -7,7 +7,7 @@ use native.Mathlib.Omega.{arith}
 use Rattle.refusal.specs.Answer.{Answer, given, refused}
 use Rattle.refusal.specs.Output.{output, emit}
 use Rattle.listing.specs.Listing.{listedHex, told}
-use Rattle.listing.proofs.Callers.{Refuses, itself, no-room, gave, refuses}
+use Rattle.laws.proofs.Callers.{Refuses, itself, no-room, gave, refuses}
 use Rattle.listing.proofs.Bounds.{hex-refuses}
 
 -- a text is told as it is

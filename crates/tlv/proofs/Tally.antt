@@ -133,6 +133,10 @@ module _ (i : ℕ) where
     pub answers-refused : (s : List ℕ) (n p k : ℕ) → refused n p k ≡ count i s → refused n p k ≡ onGiven f (framed i s)
     answers-refused s n p k e = counted-refused (λ (es : List Entry). given (f es)) s n p k e ∙ sym (on-given (framed i s))
 
+  pub counted-number : (s : List ℕ) (n : ℕ) → given n ≡ count i s → n ≡ length (framing s .entries)
+  unfolding count
+  counted-number s n e = let same : given n ≡ given (length (framing s .entries)) = e ∙ answers-given length s n e in cc
+
   -- what holds of the walk's entries holds of those that are given
   abbrev pub Holds : (List Entry → Type 0) → Answer (List Entry) → Type 0
   Holds P (given xs) = P xs

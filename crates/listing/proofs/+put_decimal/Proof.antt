@@ -5,7 +5,7 @@ use Prim.Native.Nat.{ℕ, _<_}
 use native.Mathlib.Omega.{arith}
 use borrow.Author.Needs.{needs}
 use Rattle.refusal.specs.Output.{put}
-use Rattle.listing.proofs.Stores.{put-one, put-last}
+use Rattle.laws.proofs.Puts.{put-one, put-last}
 use Rattle.listing.proofs.Decimals.{decimal-one, decimal-more, length-one, length-more}
 use borrow.Fn.Kinds.{In}
 use borrow.Fn.PlainCycle.{Measures, is, falls, and}

@@ -11,11 +11,11 @@ use Rattle.laws.proofs.Emits.{emit-refused, emit-no-room, emit-done}
 use Rattle.tlv.specs.Entries.{framing}
 use Rattle.tlv.specs.Limits.{count}
 use Rattle.tlv.specs.Answers.{countedAnswer}
-use Rattle.tlv.proofs.Tally.{counted-short}
+use Rattle.tlv.proofs.Tally.{counted-number, counted-short}
 use Rattle.listing.specs.Listing.{listing, listed}
 use Rattle.listing.proofs.Decimals.{length-below}
 use Rattle.listing.proofs.Lines.{length-listing}
-use Rattle.listing.proofs.Counts.{counted-number, listed-given, listed-refused}
+use Rattle.listing.proofs.Counts.{listed-given, listed-refused}
 use Rattle.listing.proofs.list.Statement.{statement}
 use Rattle.listing.proofs.list.Tie as tie
 
@@ -39,7 +39,7 @@ module _ (l : tie.After-lines-len) where
 
   size : 9 + l .before .decimal-len .result + l .lines-len .result ≡ length text
   size =
-      let n = counted-number _ _ (counted entries-counted) in
+      let n = counted-number 0 _ _ (counted entries-counted) in
       omega (arith, length-listing (framing (bytes entries-counted) .entries) _ n, l .before .decimal-len .ensures, l .lines-len .ensures)
 
 count-entries-requires : tie.Need-count-entries-requires
@@ -76,7 +76,7 @@ returns c = rw (c .refuse .ensures) (emit-no-room _ _ _ (is-text (c .before .bef
 put-listing-requires : tie.Need-put-listing-requires
 put-listing-requires c κs =
     let l = c .before .before in
-    (counted-number _ _ (counted (entries-counted l)), omega (arith, size l))
+    (counted-number 0 _ _ (counted (entries-counted l)), omega (arith, size l))
 
 returns-2 : tie.Need-returns-2
 returns-2 c =

@@ -3,7 +3,7 @@
 use native.Mathlib.Omega.{arith}
 use borrow.Author.Needs.{needs}
 use Rattle.laws.proofs.Emits.{emit-refused}
-use Rattle.listing.proofs.Callers.{gave-inside}
+use Rattle.laws.proofs.Callers.{gave-inside}
 use Rattle.listing.proofs.Hexes.{hex-given, hex-refused}
 use Rattle.listing.proofs.list_hex.Statement.{statement}
 use Rattle.listing.proofs.list_hex.Tie as tie

@@ -5,7 +5,7 @@ use native.Mathlib.Omega.{arith}
 use lib.ListN.{length-set}
 use Rattle.laws.proofs.Puts.{put-byte, put-then}
 use Rattle.listing.specs.Listing.{pairLine}
-use Rattle.listing.proofs.Stores.{put-last}
+use Rattle.laws.proofs.Puts.{put-last}
 use Rattle.listing.proofs.Lines.{length-line}
 use Rattle.listing.proofs.put_line.Statement.{statement}
 use Rattle.listing.proofs.put_line.Tie as tie
