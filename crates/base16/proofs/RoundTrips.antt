@@ -12,7 +12,7 @@ use borrow.Author.Tests.{ltb-true, ltb-false, eqb-true, eqb-false}
 use Rattle.refusal.specs.Answer.{Answer, given, refused}
 use Rattle.refusal.specs.Sizes.{mostBytes, mostDigits}
 use Rattle.laws.proofs.Tests.{by-test}
-use Rattle.laws.proofs.Parts.{Every}
+use Rattle.refusal.specs.Every.{Bytes}
 use Rattle.base16.specs.Base16.{hexText, digits, decoded, lowered}
 use Rattle.base16.specs.Loops.{valueOf, allDigits, paired}
 use Rattle.base16.proofs.Digits.{value-small, value-lower, digit-value}
@@ -20,10 +20,6 @@ use Rattle.base16.proofs.Scans.{all-parts}
 use Rattle.base16.proofs.Texts.{length-text}
 use Rattle.base16.proofs.Pairs.{length-paired}
 use Rattle.base16.proofs.Decodes.{decoded-large, decoded-odd, decoded-even, decoded-bad, decoded-good}
-
--- each is a byte
-abbrev pub Bytes : List ℕ → Type 0
-Bytes bs = Every (λ (b : ℕ). b < 256) bs
 
 -- what holds of a text that is decoded
 record Decoded (x bs : List ℕ) : Type 0 where

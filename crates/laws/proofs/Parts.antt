@@ -1,27 +1,31 @@
--- A part of a list, and what holds of each of its elements.
+-- A part of a list, and what holds of each element of parts and of lists put together.
 -- Assumes nothing.
 use mathlib.Core.Path.{_≡_}
 use mathlib.Core.List.{List, [], _∷_, _++_}
-use Prim.Native.Nat.{ℕ, _+_, _≤_, _<_}
+use Prim.Native.Nat.{ℕ, zero, suc, _+_, _≤_}
 use native.Mathlib.Omega.{arith}
 use lib.ListN.{length, take, drop, length-drop}
 use lib.Seq.{length-take-le}
+use Rattle.refusal.specs.Every.{Every}
 
 pub length-part : (s : List ℕ) (a n : ℕ) → a + n ≤ length s → length (take n (drop a s)) ≡ n
 length-part s a n h = length-take-le n (drop a s) (rw length-drop (omega arith))
 
--- P of each element
-abbrev pub Every : {A : Type 0} → (A → Type 0) → List A → Type 0
-Every P [] = Unit {0}
-Every P (x ∷ xs) = P x × Every P xs
+module _ {A : Type 0} (P : A → Type 0) where
+  pub every-append : (a b : List A) → Every P a → Every P b → Every P (a ++ b)
+  every-append [] b g h = h
+  every-append (x ∷ a) b g h = (g .0, every-append a b (g .1) h)
 
-abbrev pub Bytes : List ℕ → Type 0
-Bytes s = Every (λ (b : ℕ). b < 256) s
+  pub every-parts : (a b : List A) → Every P (a ++ b) → Every P a × Every P b
+  every-parts [] b h = (tt, h)
+  every-parts (x ∷ a) b h = let p = every-parts a b (h .1) in ((h .0, p .0), p .1)
 
-pub every-append : {A : Type 0} (P : A → Type 0) (xs ys : List A) → Every P xs → Every P ys → Every P (xs ++ ys)
-every-append P [] ys h k = k
-every-append P (x ∷ xs) ys h k = (h .0, every-append P xs ys (h .1) k)
+  pub every-take : (n : ℕ) (l : List A) → Every P l → Every P (take n l)
+  every-take zero l h = tt
+  every-take (suc n) [] h = tt
+  every-take (suc n) (x ∷ l) h = (h .0, every-take n l (h .1))
 
-pub every-after : {A : Type 0} (P : A → Type 0) (xs ys : List A) → Every P (xs ++ ys) → Every P ys
-every-after P [] ys h = h
-every-after P (x ∷ xs) ys h = every-after P xs ys (h .1)
+  pub every-drop : (n : ℕ) (l : List A) → Every P l → Every P (drop n l)
+  every-drop zero l h = h
+  every-drop (suc n) [] h = tt
+  every-drop (suc n) (x ∷ l) h = every-drop n l (h .1)

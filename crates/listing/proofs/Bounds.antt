@@ -12,12 +12,12 @@ use Rattle.refusal.specs.Sizes.{mostBytes, mostEntries, mostDigits}
 use Rattle.refusal.specs.Answer.{Answer, given, absent, refused, thenDo, onGiven}
 use Rattle.refusal.specs.Output.{output, emit}
 use Rattle.laws.proofs.Tests.{by-test, pick-all}
-use Rattle.laws.proofs.Parts.{Every}
+use Rattle.refusal.specs.Every.{Every, Bytes}
 use Rattle.tlv.specs.Entries.{Entry, Stop, clean, cutAt, framing}
 use Rattle.tlv.specs.Limits.{placeOfNext, limited, framed}
 use Rattle.base16.specs.Base16.{decoded}
 use Rattle.base16.specs.Loops.{isDigit, allDigits, firstBad, paired}
-use Rattle.base16.proofs.RoundTrips.{Bytes, decoded-fits, decoded-bytes}
+use Rattle.base16.proofs.RoundTrips.{decoded-fits, decoded-bytes}
 use Rattle.base16.proofs.Decodes.{decoded-large, decoded-odd, decoded-bad, decoded-good}
 use Rattle.listing.specs.Listing.{pairLine, entryLines, listing, listed, listedHex, lineOf, told, report, reportBytes}
 use Rattle.listing.proofs.Decimals.{length-below}

@@ -8,9 +8,8 @@ use lib.Seq.{length-take-le}
 use lib.Dec.{leb, eqb}
 use borrow.Author.Tests.{leb-true}
 use Rattle.laws.proofs.Tests.{pick-all}
-use Rattle.laws.proofs.Parts.{Every}
+use Rattle.refusal.specs.Every.{Every, Bytes}
 use Rattle.tlv.specs.Entries.{First, none, cut, one, valued, long, first, Entry, entry, Stop, clean, cutAt, Framing, step, frames, framing}
-use Rattle.base16.proofs.RoundTrips.{Bytes}
 
 -- an entry of bytes that lie before a place
 abbrev pub Fits : ℕ → Entry → Type 0

@@ -2,3 +2,4 @@ pub mod Sizes
 pub mod Answer
 pub mod Number
 pub mod Output
+pub mod Every

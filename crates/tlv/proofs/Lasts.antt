@@ -11,7 +11,8 @@ use lib.Dec.{eqb}
 use borrow.Author.Tests.{eq-eqb, ne-eqb}
 use Rattle.refusal.specs.Answer.{pick, Answer, given, absent, refused, thenDo, onGiven}
 use Rattle.laws.proofs.Tests.{pick-all}
-use Rattle.laws.proofs.Parts.{length-part, Every}
+use Rattle.refusal.specs.Every.{Every}
+use Rattle.laws.proofs.Parts.{length-part}
 use Rattle.tlv.specs.Entries.{Entry, entry}
 use Rattle.tlv.specs.Limits.{framed}
 use Rattle.tlv.specs.Last.{lastOf, lastEntry, Spot, spotAt, spot, lastSpot, valueOr, lastValue}

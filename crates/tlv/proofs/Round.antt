@@ -13,7 +13,8 @@ use borrow.Author.Tests.{le-leb, le-ltb, leb-true, leb-false, ltb-false, ne-eqb,
 use Rattle.refusal.specs.Sizes.{mostBytes, mostEntries, mostShort}
 use Rattle.refusal.specs.Answer.{Answer, given, absent, refused, onGiven}
 use Rattle.laws.proofs.Tests.{by-test, pick-all}
-use Rattle.laws.proofs.Parts.{Every, Bytes, every-after}
+use Rattle.refusal.specs.Every.{Every, Bytes}
+use Rattle.laws.proofs.Parts.{every-parts}
 use Rattle.tlv.specs.Entries.{First, none, cut, one, valued, long, first, Entry, entry, Content, contents, Stop, clean, cutAt, Framing, done, onto, step, frames, framing}
 use Rattle.tlv.specs.Limits.{limited, framed}
 use Rattle.tlv.specs.Encode.{header, encode, sizeOf, encodeAll, Shortest, keepsOf, kept, rewritten}
@@ -75,7 +76,7 @@ valued-back t h v rest =
     let l = length-append v rest in
     rw (le-leb (length v) (length (v ++ rest)) (omega arith), take-append-seam, drop-append-seam)
 
-first-back : (t : ℕ) (v rest : List ℕ) → first (encode t v ++ rest) ≡ one t (length (header t (length v))) v rest
+pub first-back : (t : ℕ) (v rest : List ℕ) → first (encode t v ++ rest) ≡ one t (length (header t (length v))) v rest
 unfolding first long
 first-back t v rest =
     by-test (leb (length v) mostShort)
@@ -137,7 +138,7 @@ Spelt s (one t h v rest) =
 
 module _ (t : ℕ) (v rest r : List ℕ) (whole : v ++ rest ≡ r) (b : Bytes r) where
   rest-bytes : Bytes rest
-  rest-bytes = every-after _ v rest (rw whole b)
+  rest-bytes = let both : Bytes (v ++ rest) = rw whole b in every-parts (λ (x : ℕ). x < 256) v rest both .1
 
   short-spelt : (l : ℕ) → length v ≡ l → l ≤ mostShort → Spelt (t ∷ l ∷ r) (one t 2 v rest)
   short-spelt l n h =

@@ -16,7 +16,8 @@ use lib.Dec.{leb, ltb, eqb}
 use borrow.Author.Tests.{le-leb, lt-leb, lt-ltb, le-ltb, ltb-false, leb-true, leb-false}
 use Rattle.refusal.specs.Answer.{pick, Answer, given, refused}
 use Rattle.laws.proofs.Tests.{by-test, pick-all}
-use Rattle.laws.proofs.Parts.{length-part, Every}
+use Rattle.refusal.specs.Every.{Every}
+use Rattle.laws.proofs.Parts.{length-part}
 use Rattle.tlv.specs.Entries.{First, none, cut, one, valued, long, first, Entry, entry, Stop, clean, cutAt, Framing, done, onto, step, frames, framing}
 use Rattle.tlv.specs.Place.{frameAt, valueAt}
 use Rattle.tlv.specs.Answers.{Head, head, headOf}

@@ -6,7 +6,8 @@ use Prim.Native.Nat.{ℕ, zero, suc, _+_, _*_, _/_, _%_, _^_, _<_}
 use native.Mathlib.Omega.{arith}
 use native.Mathlib.Nat.{zero-add, add-zero, pow-suc, div-add-mod'}
 use lib.ListN.{length, length-append}
-use Rattle.laws.proofs.Parts.{Bytes, every-append}
+use Rattle.refusal.specs.Every.{Bytes}
+use Rattle.laws.proofs.Parts.{every-append}
 use Rattle.wire.specs.Be.{beFrom, be, bytesOf}
 
 be-last : (x : ℕ) (s : List ℕ) (b : ℕ) → beFrom x (s ++ (b ∷ [])) ≡ beFrom x s * 256 + b

@@ -1,0 +1,9 @@
+pub mod Lasts
+pub mod Folds
+pub mod Weights
+pub mod Backs
+pub mod Reading
+pub mod Limits
+pub mod Effects
+pub mod Demand
+pub mod Bench

@@ -1,0 +1,4 @@
+pub mod Operations
+pub mod Run
+pub mod Fold
+pub mod Demand
