@@ -1,0 +1,107 @@
+// Calls on entries: `frame`, `one`, `rewrite`, `entry`, `raw`.
+use crate::answers::Answer;
+use crate::requests::Values;
+use crate::requests::asks;
+use crate::rooms::Room;
+use crate::text::put_hex;
+use crate::text::put_marked;
+use crate::text::put_number;
+use crate::text::put_numbers;
+use crate::text::put_refusal;
+use crate::text::put_text;
+use tlv::Counted;
+use tlv::Found;
+use tlv::Frame;
+use tlv::Parsed;
+
+// An entry: type, place of its first byte, header size and length.
+fn put_entry(
+    text: &mut Room,
+    at: usize,
+    ty: u8,
+    place: usize,
+    header: usize,
+    len: usize,
+) -> usize {
+    let first = put_marked(text, at, b' ', ty as usize);
+    let numbers = [place, header, len];
+    put_numbers(text, first, b':', &numbers)
+}
+
+fn put_entries(text: &mut Room, at: usize, s: &[u8]) -> usize {
+    let mut next = at;
+    let mut place: usize = 0;
+    loop {
+        match tlv::frame_at(s, place) {
+            Frame::Entry { ty, start, len } => {
+                next = put_entry(text, next, ty, place, start - place, len);
+                place = start + len;
+            }
+            _ => {
+                return next;
+            }
+        }
+    }
+}
+
+// The answer to `frame` for these bytes.
+pub(crate) fn put_frame(text: &mut Room, at: usize, s: &[u8]) -> usize {
+    match tlv::count_entries(s, 0) {
+        Counted::Entries(n) => {
+            let word = put_text(text, at, b"ok");
+            let count = put_marked(text, word, b' ', n);
+            put_entries(text, count, s)
+        }
+        Counted::Refused(r) => put_refusal(text, at, r),
+    }
+}
+
+fn put_part(text: &mut Room, at: usize, part: &[u8], start: usize) -> usize {
+    let word = put_text(text, at, b"ok ");
+    let bytes = put_hex(text, word, part);
+    let sign = put_text(text, bytes, b" @");
+    put_number(text, sign, start as u64)
+}
+
+// The place is that of the entry that was found, the bytes are the part that was handed back.
+fn put_raw(text: &mut Room, at: usize, ty: u8, s: &[u8]) -> usize {
+    match tlv::last_entry(s, ty, 0) {
+        Found::At {
+            place: _,
+            start,
+            len: _,
+        } => put_part(text, at, tlv::last_value(s, ty), start),
+        Found::Absent => put_text(text, at, b"absent"),
+        Found::Refused(r) => put_refusal(text, at, r),
+    }
+}
+
+fn one(s: &[u8]) -> Answer {
+    match tlv::parse_one(s) {
+        Parsed::Entry { ty, header, len } => Answer::Three(ty as usize, header, len),
+        Parsed::Refused(r) => Answer::Refused(r),
+    }
+}
+
+pub(crate) fn framing_texts(request: &Room, v: Values, text: &mut Room, at: usize) -> usize {
+    if asks(request, b"frame b") {
+        return put_frame(text, at, v.bytes(request, 1));
+    }
+    if asks(request, b"raw tb") {
+        return put_raw(text, at, v.type_byte(1), v.bytes(request, 2));
+    }
+    at
+}
+
+pub(crate) fn framing_calls(request: &Room, v: Values, lent: &mut [u8]) -> Answer {
+    if asks(request, b"one b") {
+        return one(v.bytes(request, 1));
+    }
+    if asks(request, b"rewrite bn") {
+        return Answer::Wrote(tlv::rewrite(v.bytes(request, 1), lent));
+    }
+    if asks(request, b"entry tbn") {
+        return Answer::Wrote(tlv::write_entry(v.type_byte(1), v.bytes(request, 2), lent));
+    }
+    Answer::Unknown
+}

@@ -1,0 +1,26 @@
+// Calls that write listings: `flat`, `hexflat`, `prog`.
+use crate::answers::Answer;
+use crate::lent::lend;
+use crate::lent::put_written;
+use crate::requests::Values;
+use crate::requests::asks;
+use crate::rooms::Room;
+
+// More than a report can have.
+const REPORT: u64 = 8192;
+
+pub(crate) fn put_report(text: &mut Room, at: usize, input: &[u8], out: &mut [u8]) -> usize {
+    let n = lend(out, REPORT);
+    let written = listing::report_text(input, &mut out[0..n]);
+    put_written(text, at, written, &out[0..n])
+}
+
+pub(crate) fn listing_calls(request: &Room, v: Values, lent: &mut [u8]) -> Answer {
+    if asks(request, b"flat bn") {
+        return Answer::Wrote(listing::list(v.bytes(request, 1), lent));
+    }
+    if asks(request, b"hexflat bn") {
+        return Answer::Wrote(listing::list_hex(v.bytes(request, 1), lent));
+    }
+    Answer::Unknown
+}

@@ -1,0 +1,73 @@
+// Answers as text: each function puts its piece into the text from a place on, as far as there is room, and gives the place after it.
+use crate::rooms::ROOM;
+use crate::rooms::Room;
+use refusal::Refusal;
+
+pub(crate) fn put_byte(text: &mut Room, at: usize, b: u8) -> usize {
+    if at < ROOM {
+        text[at] = b;
+        return at + 1;
+    }
+    at
+}
+
+pub(crate) fn put_text(text: &mut Room, at: usize, s: &[u8]) -> usize {
+    let mut next = at;
+    let mut i = 0;
+    while i < s.len() {
+        next = put_byte(text, next, s[i]);
+        i += 1;
+    }
+    next
+}
+
+fn digit_of(value: u8) -> u8 {
+    let v = value % 16;
+    if v < 10 { b'0' + v } else { b'a' - 10 + v }
+}
+
+// Bytes in lower-case hex, and `-` for none.
+pub(crate) fn put_hex(text: &mut Room, at: usize, s: &[u8]) -> usize {
+    if s.len() == 0 {
+        return put_byte(text, at, b'-');
+    }
+    let mut next = at;
+    let mut i = 0;
+    while i < s.len() {
+        let b = s[i];
+        let half = put_byte(text, next, digit_of(b / 16));
+        next = put_byte(text, half, digit_of(b));
+        i += 1;
+    }
+    next
+}
+
+pub(crate) fn put_number(text: &mut Room, at: usize, n: u64) -> usize {
+    let mut digits = [0u8; 20];
+    let k = io::decimal(n, &mut digits);
+    put_text(text, at, &digits[..k])
+}
+
+// A mark, and a number.
+pub(crate) fn put_marked(text: &mut Room, at: usize, mark: u8, n: usize) -> usize {
+    let next = put_byte(text, at, mark);
+    put_number(text, next, n as u64)
+}
+
+// Numbers, the mark before each.
+pub(crate) fn put_numbers(text: &mut Room, at: usize, mark: u8, numbers: &[usize]) -> usize {
+    let mut next = at;
+    let mut i = 0;
+    while i < numbers.len() {
+        next = put_marked(text, next, mark, numbers[i]);
+        i += 1;
+    }
+    next
+}
+
+pub(crate) fn put_refusal(text: &mut Room, at: usize, r: Refusal) -> usize {
+    let fault = r.fault;
+    let numbers = [fault.number() as usize, r.place, r.input as usize];
+    let word = put_text(text, at, b"refused");
+    put_numbers(text, word, b' ', &numbers)
+}
