@@ -15,14 +15,7 @@ use tlv::Frame;
 use tlv::Parsed;
 
 // An entry: type, place of its first byte, header size and length.
-fn put_entry(
-    text: &mut Room,
-    at: usize,
-    ty: u8,
-    place: usize,
-    header: usize,
-    len: usize,
-) -> usize {
+fn put_entry(text: &mut Room, at: usize, ty: u8, place: usize, header: usize, len: usize) -> usize {
     let first = put_marked(text, at, b' ', ty as usize);
     let numbers = [place, header, len];
     put_numbers(text, first, b':', &numbers)
