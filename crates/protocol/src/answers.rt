@@ -1,9 +1,8 @@
-// What a call answers, and its text.
+// What calls answer by value, and its text.
 use crate::lent::put_written;
 use crate::rooms::Room;
-use crate::text::put_numbers;
 use crate::text::put_refusal;
-use crate::text::put_text;
+use crate::text::put_three;
 use refusal::Refusal;
 use refusal::Written;
 
@@ -24,17 +23,11 @@ impl Answer {
     }
 }
 
-fn put_three(text: &mut Room, at: usize, a: usize, b: usize, c: usize) -> usize {
-    let word = put_text(text, at, b"ok");
-    let numbers = [a, b, c];
-    put_numbers(text, word, b' ', &numbers)
-}
-
 pub(crate) fn put_answer(text: &mut Room, at: usize, answer: Answer, lent: &[u8]) -> usize {
     match answer {
         Answer::Unknown => at,
         Answer::Wrote(written) => put_written(text, at, written, lent),
-        Answer::Three(a, b, c) => put_three(text, at, a, b, c),
+        Answer::Three(a, b, c) => put_three(text, at, a as u64, b as u64, c as u64),
         Answer::Refused(r) => put_refusal(text, at, r),
     }
 }

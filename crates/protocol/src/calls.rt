@@ -1,6 +1,11 @@
-// The calls in groups: the first that knows a request answers it.
+// The calls in groups by topic: the first that knows a request answers it.
+//
+// To add a call: where its answer is a value, or what it writes into an output whose size is its last word, one `if` in its topic's group
+// below `value_calls`, with a case of `Answer` for a new kind of value; where its answer is a text of its own, one in a group below
+// `text_calls`. Such a function needs no proof file unless it has a loop. A request that no group knows is a bad request.
 use crate::answers::Answer;
 use crate::answers::put_answer;
+use crate::edits::edit_calls;
 use crate::framing::framing_calls;
 use crate::framing::framing_texts;
 use crate::hexes::hex_calls;
@@ -8,6 +13,9 @@ use crate::hexes::put_hexframe;
 use crate::lent::lend;
 use crate::listings::listing_calls;
 use crate::listings::put_report;
+use crate::parts::part_texts;
+use crate::queries::query_texts;
+use crate::queries::value_texts;
 use crate::requests::Values;
 use crate::requests::asks;
 use crate::requests::read;
@@ -27,6 +35,10 @@ fn value_calls(request: &Room, v: Values, lent: &mut [u8]) -> Answer {
     if hex.known() {
         return hex;
     }
+    let edit = edit_calls(request, v, lent);
+    if edit.known() {
+        return edit;
+    }
     listing_calls(request, v, lent)
 }
 
@@ -38,20 +50,33 @@ fn text_calls(request: &Room, v: Values, out: &mut [u8], text: &mut Room, at: us
     if asks(request, b"prog b") {
         return put_report(text, at, v.bytes(request, 1), out);
     }
-    framing_texts(request, v, text, at)
+    let framing = framing_texts(request, v, text, at);
+    if framing != at {
+        return framing;
+    }
+    dataset_texts(request, v, text, at)
 }
 
-fn put_known(request: &Room, v: Values, out: &mut [u8], text: &mut Room, at: usize) -> usize {
-    let end = text_calls(request, v, out, text, at);
-    if end != at {
-        return end;
+// Calls on datasets and their values.
+fn dataset_texts(request: &Room, v: Values, text: &mut Room, at: usize) -> usize {
+    let queries = query_texts(request, v, text, at);
+    if queries != at {
+        return queries;
     }
+    let values = value_texts(request, v, text, at);
+    if values != at {
+        return values;
+    }
+    part_texts(request, v, text, at)
+}
+
+fn put_value(request: &Room, v: Values, out: &mut [u8], text: &mut Room, at: usize) -> usize {
     let n = lend(out, v.cap);
     let answer = value_calls(request, v, &mut out[0..n]);
     put_answer(text, at, answer, &out[0..n])
 }
 
-// Puts the answer to a line, or nothing where it is no request.
+// Puts the answer to a line, or nothing where it is no request that is known.
 pub(crate) fn put_call(
     line: &[u8],
     arena: &mut Room,
@@ -63,5 +88,9 @@ pub(crate) fn put_call(
         return at;
     }
     let v = read(line, arena);
-    put_known(arena, v, out, text, at)
+    let end = text_calls(arena, v, out, text, at);
+    if end != at {
+        return end;
+    }
+    put_value(arena, v, out, text, at)
 }

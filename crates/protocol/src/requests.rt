@@ -6,16 +6,18 @@ use crate::rooms::Room;
 use crate::text::put_byte;
 use crate::text::put_text;
 use crate::words::part_of;
+use crate::words::same;
 use crate::words::until;
+ghost use Prim.Native.Nat.{_≤_};
 
-// A request that `read` can read has at most so many words, its name among them, and a name at most so long.
+// A request has at most so many words, its name among them, and a name at most so long: the bytes come after what both can take.
 const MOST_VALUES: usize = 24;
 
 const LONGEST_NAME: usize = 32;
 
 const BYTES: usize = 64;
 
-// A word's kind is the sum of what it is: a word (and so never 0), bytes, a number, a type.
+// A word's kind is the sum of what it is: a word (and so never 0), bytes, a number, one to 255, to 65,535, to 1, a version.
 const WORD: u8 = 1;
 
 const HEX: u8 = 2;
@@ -24,15 +26,22 @@ const NUMBER: u8 = 4;
 
 const TYPE: u8 = 8;
 
-// A word's kind, the part of the arena that has its bytes, and its number.
+const SHORT: u8 = 16;
+
+const BIT: u8 = 32;
+
+const VERSION: u8 = 64;
+
+// A word's kind, the place where it stops in the line, the part of the arena that has its bytes, and its number.
 struct Value {
     kind: u8,
+    stop: usize,
     start: usize,
     end: usize,
     number: u64,
 }
 
-// The values of the words, and the last word's number: where a call writes into a lent output, that is the output's size.
+// The values of the words by their number, the name's being 0, and the last word's number: for a call that is lent an output, its size.
 pub(crate) struct Values {
     pub(crate) cap: u64,
     values: [Value; MOST_VALUES],
@@ -47,7 +56,8 @@ fn digit(c: u8) -> u8 {
     }
 }
 
-// Puts the bytes that a word spells into the arena from start on. The place after them: start, if the word spells no bytes.
+// Puts the bytes that a word spells into the arena from start on. The place after them, which is start where it spells none. A digit that is
+// none has a bit that no other has, so one test at the end finds it.
 fn put_bytes(word: &[u8], arena: &mut Room, start: usize) -> usize {
     let n = word.len() / 2;
     let mut seen = 0;
@@ -97,16 +107,58 @@ fn number_of(word: &[u8]) -> Number {
         x = x * 10 + low;
         i += 1;
     }
-    if x > 255 {
-        return Number {
-            kind: NUMBER,
-            value: x,
-        };
-    }
     Number {
-        kind: NUMBER | TYPE,
+        kind: number_kind(x),
         value: x,
     }
+}
+
+fn number_kind(x: u64) -> u8 {
+    if x > 65535 {
+        return NUMBER;
+    }
+    if x > 255 {
+        return NUMBER | SHORT;
+    }
+    if x > 1 {
+        return NUMBER | SHORT | TYPE;
+    }
+    NUMBER | SHORT | TYPE | BIT
+}
+
+// The number of a version, with 0 for `V1Or2`, and its kind: 0 if the word is none.
+fn version_of(word: &[u8]) -> Number {
+    if same(word, b"V1Or2") {
+        return Number {
+            kind: VERSION,
+            value: 0,
+        };
+    }
+    if same(word, b"V10") {
+        return Number {
+            kind: VERSION,
+            value: 10,
+        };
+    }
+    if word.len() == 2 {
+        return short_version(word[0], word[1]);
+    }
+    Number { kind: 0, value: 0 }
+}
+
+// `V3` to `V9`.
+fn short_version(v: u8, digit: u8) -> Number {
+    if v == b'V' {
+        if digit >= b'3' {
+            if digit <= b'9' {
+                return Number {
+                    kind: VERSION,
+                    value: (digit - b'0') as u64,
+                };
+            }
+        }
+    }
+    Number { kind: 0, value: 0 }
 }
 
 fn hex_kind(word: &[u8], start: usize, end: usize) -> u8 {
@@ -121,14 +173,23 @@ fn hex_kind(word: &[u8], start: usize, end: usize) -> u8 {
     0
 }
 
-fn value_of(word: &[u8], arena: &mut Room, start: usize) -> Value {
+// Reads the word that begins at `first`, and puts its bytes into the arena from `start` on.
+fn value_of(line: &[u8], first: usize, arena: &mut Room, start: usize) -> Value
+    requires { do ⌜ first ≤ (← ⟦line.len()⟧) ⌝ }
+    ensures { λ r. ⌜ first ≤ r .stop ⌝ }
+    ensures { λ r. do ⌜ r .stop ≤ (← ⟦line.len()⟧ .entry) ⌝ }
+{
+    let stop = until(line, first, b' ');
+    let word = &line[first..stop];
     let n = number_of(word);
+    let version = version_of(word);
     let end = put_bytes(word, arena, start);
     Value {
-        kind: WORD | hex_kind(word, start, end) | n.kind,
+        kind: WORD | hex_kind(word, start, end) | n.kind | version.kind,
+        stop,
         start,
         end,
-        number: n.value,
+        number: n.value | version.value,
     }
 }
 
@@ -145,6 +206,7 @@ fn put_name(arena: &mut Room, name: &[u8]) -> usize {
 pub(crate) fn read(line: &[u8], arena: &mut Room) -> Values {
     let none = Value {
         kind: 0,
+        stop: 0,
         start: 0,
         end: 0,
         number: 0,
@@ -160,13 +222,12 @@ pub(crate) fn read(line: &[u8], arena: &mut Room) -> Values {
             key = 0;
             break;
         }
-        let end = until(line, blank + 1, b' ');
-        let v = value_of(&line[blank + 1..end], arena, start);
+        let v = value_of(line, blank + 1, arena, start);
         values[k] = v;
         key = put_byte(arena, key, v.kind);
         start = v.end;
         cap = v.number;
-        blank = end;
+        blank = v.stop;
         k += 1;
     }
     put_byte(arena, key, 0);
@@ -174,7 +235,7 @@ pub(crate) fn read(line: &[u8], arena: &mut Room) -> Values {
 }
 
 impl Values {
-    // The bytes that the word of that number spells, in the arena that it was read into. The name has number 0.
+    // The bytes that a word spells, in the arena that it was read into.
     pub(crate) fn bytes<'a>(self, request: &'a Room, k: usize) -> &'a [u8] {
         if k < MOST_VALUES {
             let v = self.values[k];
@@ -194,6 +255,10 @@ impl Values {
     pub(crate) fn type_byte(self, k: usize) -> u8 {
         (self.number(k) % 256) as u8
     }
+
+    pub(crate) fn short(self, k: usize) -> u16 {
+        (self.number(k) % 65536) as u16
+    }
 }
 
 // Whether a character of a request in the arena is what a call's text has there: the same one, or a kind that the letter stands for.
@@ -205,12 +270,15 @@ fn agrees(c: u8, with: u8, letters: bool) -> bool {
         b'b' => c & HEX != 0,
         b'n' => c & NUMBER != 0,
         b't' => c & TYPE != 0,
+        b's' => c & SHORT != 0,
+        b'i' => c & BIT != 0,
+        b'v' => c & VERSION != 0,
         _ => false,
     }
 }
 
 // Whether a request is for the call of that text: its name, a blank and a letter for each further word, b for bytes, n for a number, t for
-// a type.
+// one to 255 (a type, a page), s for one to 65,535, i for 0 or 1, v for a version.
 pub(crate) fn asks(request: &Room, call: &[u8]) -> bool {
     let n = call.len();
     if n >= ROOM {

@@ -71,3 +71,36 @@ pub(crate) fn put_refusal(text: &mut Room, at: usize, r: Refusal) -> usize {
     let word = put_text(text, at, b"refused");
     put_numbers(text, word, b' ', &numbers)
 }
+
+// The word of an answer that has a value.
+pub(crate) fn put_ok(text: &mut Room, at: usize) -> usize {
+    put_text(text, at, b"ok")
+}
+
+pub(crate) fn put_absent(text: &mut Room, at: usize) -> usize {
+    put_text(text, at, b"absent")
+}
+
+// A value that is bytes.
+pub(crate) fn put_bytes_value(text: &mut Room, at: usize, s: &[u8]) -> usize {
+    let word = put_text(text, at, b"ok ");
+    put_hex(text, word, s)
+}
+
+// A value that is one number, or two, or three.
+pub(crate) fn put_one(text: &mut Room, at: usize, a: u64) -> usize {
+    let word = put_text(text, at, b"ok ");
+    put_number(text, word, a)
+}
+
+pub(crate) fn put_two(text: &mut Room, at: usize, a: u64, b: u64) -> usize {
+    let first = put_one(text, at, a);
+    let blank = put_byte(text, first, b' ');
+    put_number(text, blank, b)
+}
+
+pub(crate) fn put_three(text: &mut Room, at: usize, a: u64, b: u64, c: u64) -> usize {
+    let second = put_two(text, at, a, b);
+    let blank = put_byte(text, second, b' ');
+    put_number(text, blank, c)
+}

@@ -1,4 +1,4 @@
-// Parts of a slice: where one ends, and what it has.
+// Parts of a line, or of any slice: where one ends, and what it has.
 ghost use Prim.Native.Nat.{_≤_};
 
 pub(crate) fn least(a: usize, b: usize) -> usize
@@ -31,4 +31,19 @@ pub(crate) fn until(s: &[u8], from: usize, stop: u8) -> usize
         i += 1;
     }
     i
+}
+
+// Whether two texts are the same.
+pub(crate) fn same(a: &[u8], b: &[u8]) -> bool {
+    if a.len() != b.len() {
+        return false;
+    }
+    let mut i = 0;
+    while i < a.len() {
+        if a[i] != b[i] {
+            return false;
+        }
+        i += 1;
+    }
+    true
 }

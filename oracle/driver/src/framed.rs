@@ -24,6 +24,13 @@ pub struct ReadDataset {
     pub entries: Vec<PlacedEntry>,
 }
 
+impl ReadDataset {
+    /// The last entry of a type, which is the one that the Rust's queries use.
+    pub fn last(&self, ty: u8) -> Option<&PlacedEntry> {
+        self.entries.iter().rev().find(|entry| entry.ty == ty)
+    }
+}
+
 /// Refusals 1, 2, 3, or the dataset.
 pub fn read_dataset(bytes: &[u8]) -> Result<ReadDataset, Refusal> {
     sizes::test_bytes(bytes)?;
@@ -64,6 +71,19 @@ pub fn first_entry(bytes: &[u8]) -> Result<(PlacedEntry, &[u8]), Refusal> {
     let (entry, after) = tlv::parse_one(bytes).map_err(refusal_of_tlv)?;
     let header = bytes.len() - after.len() - entry.value.len();
     Ok((PlacedEntry { ty: entry.ty, start: 0, header, value: entry.value }, after))
+}
+
+/// The dataset written afresh. Refusal 13 only, of a value that was not read but set.
+pub fn write_dataset(dataset: &Dataset) -> Result<Vec<u8>, Refusal> {
+    dataset.to_bytes().map_err(refusal_of_writing)
+}
+
+/// Document 01's number for an error of a dataset's writing.
+pub fn refusal_of_writing(error: Error) -> Refusal {
+    match error {
+        Error::Tlv(error) => refusal_of_tlv(error),
+        Error::Dataset(_) | Error::Hex(_) => unreachable!("only by what reads"),
+    }
 }
 
 /// Document 01's number for an error of tlv.rs, at place 0.

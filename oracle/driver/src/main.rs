@@ -23,7 +23,8 @@ use make::Sequence;
 
 const USAGE: &str = "\
 driver answer                                 answers the request lines of standard input by the Rust
-driver make CASES SEED [CALLS [FIRST]]        writes the requests of cases FIRST (0) and on; CALLS: `all`, or names parted by commas
+driver make CASES SEED [CALLS [FIRST]]        writes the requests of cases FIRST (0) and on; CALLS: `all`, names parted by commas,
+                                              or `three-byte-names`, v.name with all of these in order
 driver compare REQUESTS OURS THEIRS [TALLY]   compares two files of answers; adds the figures to those in the file TALLY
 driver figures TALLY                          prints the figures in the file TALLY
 driver sample LINES SEED                      writes about so many requests that show every kind of answer";
@@ -67,8 +68,19 @@ fn sequence(seed: &str, calls: &str) -> Result<Sequence, Box<dyn Error>> {
 }
 
 fn make(cases: &str, seed: &str, calls: &str, first: &str) -> Result<(), Box<dyn Error>> {
-    let sequence = sequence(seed, calls)?;
-    Ok(make::make(&sequence, first.parse()?, cases.parse()?, output())?)
+    let (first, cases) = (first.parse()?, cases.parse()?);
+    match calls {
+        "three-byte-names" => write_lines(make::three_byte_names(first, cases)),
+        _ => write_lines(sequence(seed, calls)?.requests(first, cases)),
+    }
+}
+
+fn write_lines(lines: impl IntoIterator<Item = String>) -> Result<(), Box<dyn Error>> {
+    let mut output = output();
+    for line in lines {
+        writeln!(output, "{line}")?;
+    }
+    Ok(output.flush()?)
 }
 
 fn compare(requests: &str, ours: &str, theirs: &str, tally: Option<&str>) -> Result<ExitCode, Box<dyn Error>> {
@@ -91,9 +103,5 @@ fn read_tally(path: &str) -> Result<Figures, Box<dyn Error>> {
 }
 
 fn sample(lines: &str, seed: &str) -> Result<(), Box<dyn Error>> {
-    let mut output = output();
-    for request in sample::sample(&sequence(seed, "all")?, lines.parse()?) {
-        writeln!(output, "{request}")?;
-    }
-    Ok(output.flush()?)
+    write_lines(sample::sample(&sequence(seed, "all")?, lines.parse()?))
 }

@@ -13,17 +13,17 @@ struct Band {
 }
 
 /// Lines that a size asks for, those about 255 bytes or 128 entries, and all others.
-const LONG: Band = Band { over: 2_000, most_characters: 950_000 };
-const MIDDLING: Band = Band { over: 300, most_characters: 330_000 };
+const LONG: Band = Band { over: 2_000, most_characters: 1_300_000 };
+const MIDDLING: Band = Band { over: 300, most_characters: 200_000 };
 const SHORT: Band = Band { over: 0, most_characters: 200_000 };
 
-const MOST_LONG_LINES: usize = 40;
+const MOST_LONG_LINES: usize = 60;
 
 /// So many cases are looked through for each line of the sample, and no fewer than `LEAST_CASES`.
 const CASES_A_LINE: usize = 20;
 const LEAST_CASES: usize = 40_000;
 
-/// A call, by its place in the table, and the kind of its answer.
+/// A call, by its place in the table (past its end if there is no such call), and the kind of its answer.
 type Kind = (usize, String);
 
 /// `driver sample`: about `wanted` requests, ordered by call and kind.
@@ -37,12 +37,11 @@ pub fn sample(sequence: &Sequence, wanted: usize) -> Vec<String> {
     chosen.into_iter().map(|(_, request)| request).collect()
 }
 
-/// The edges, then short ones of the cases, each request once. Those that cannot be read are all of one kind.
+/// The edges, then short ones of the cases, each request once.
 fn requests_by_kind(sequence: &Sequence, cases: usize) -> BTreeMap<Kind, Vec<String>> {
     let mut kinds: BTreeMap<Kind, Vec<String>> = BTreeMap::new();
     let mut seen = HashSet::new();
-    let others = (0..cases as u64).map(|case| sequence.request(case));
-    let short_ones = others.filter(|request| request.len() <= MIDDLING.over);
+    let short_ones = sequence.requests(0, cases as u64).filter(|request| request.len() <= MIDDLING.over);
     for request in sequence.edges().iter().cloned().chain(short_ones) {
         if seen.insert(request.clone()) {
             kinds.entry(kind_of(&request)).or_default().push(request);
@@ -54,10 +53,11 @@ fn requests_by_kind(sequence: &Sequence, cases: usize) -> BTreeMap<Kind, Vec<Str
 fn kind_of(request: &str) -> Kind {
     let name = request.split(' ').next();
     let place = calls::ALL.iter().position(|call| Some(call.name) == name);
-    match (place, reply(request.as_bytes())) {
-        (Some(place), Reply::Answered(answer)) => (place, label(calls::ALL[place].name, &answer)),
-        _ => (calls::ALL.len(), "bad request".to_string()),
-    }
+    let label = match (place, reply(request.as_bytes())) {
+        (Some(place), Reply::Answered(answer)) => label(calls::ALL[place].name, &answer),
+        _ => "bad request".to_string(),
+    };
+    (place.unwrap_or(calls::ALL.len()), label)
 }
 
 fn label(call: &str, answer: &Answer) -> String {
@@ -85,12 +85,12 @@ fn take_over(length: usize, kinds: &mut BTreeMap<Kind, Vec<String>>) -> Vec<(Kin
     kinds.iter_mut().map(take).collect()
 }
 
-/// Takes the long requests out, those nearest to a size first, and first those kinds that nothing short shows, then
-/// those that stand just within a size or just over it, then those that cost least.
+/// Takes the long requests out, those nearest to a size first, by their own length and their answer's, and first those
+/// kinds that nothing short shows, then those that stand just within a size or just over it, then those that cost least.
 fn long_ones(kinds: &mut BTreeMap<Kind, Vec<String>>) -> Vec<(Kind, Vec<String>)> {
     let mut long = take_over(LONG.over, kinds);
     for (kind, requests) in &mut long {
-        requests.sort_by_key(String::len);
+        requests.sort_by_cached_key(|request| request.len() + reply(request.as_bytes()).to_string().len());
         if !is_over_a_size(kind) {
             requests.reverse();
         }
@@ -104,7 +104,7 @@ fn long_ones(kinds: &mut BTreeMap<Kind, Vec<String>>) -> Vec<(Kind, Vec<String>)
 }
 
 fn is_over_a_size((_, label): &Kind) -> bool {
-    *label == refused(1) || *label == refused(13)
+    [1, 10, 13].iter().any(|number| *label == refused(*number))
 }
 
 /// A request of each kind in turn, then a second of each, and so on, as far as lines and characters reach.

@@ -1,6 +1,8 @@
 //! The refusals that only our library has: document 01's sizes, of which the Rust knows none. Everything else that a
 //! call answers comes from the Rust. The order of the tests is 01's: 1, then the Rust's 7, 8 and 2, then 3, the Rust's
-//! 13, and 11. 10, before 11, comes with the first call that can give it.
+//! 4, 5, 6 and 13, then 10, and 11.
+
+use meshcop::dataset::Dataset;
 
 use crate::answer::Refusal;
 use crate::framed::PlacedEntry;
@@ -31,6 +33,14 @@ pub fn test_entry_count(entries: &[PlacedEntry]) -> Result<(), Refusal> {
         Some(entry) => Err(Refusal::at(3, entry.start)),
         None => Ok(()),
     }
+}
+
+/// 10: the result is a dataset of over 8,192 bytes as written, or of more than 128 entries.
+pub fn test_result(dataset: &Dataset, written: &[u8]) -> Result<(), Refusal> {
+    if written.len() > MOST_BYTES || dataset.entries().len() > MOST_ENTRIES {
+        return Err(Refusal::at(10, 0));
+    }
+    Ok(())
 }
 
 /// 11: the lent output is shorter than the result.

@@ -23,13 +23,18 @@ impl<'a> Words<'a> {
         bytes_of(self.word()?)
     }
 
-    pub fn number(&mut self) -> Option<u64> {
-        number_of(self.word()?)
+    /// A number that the Rust's kind of it can hold: a type or page to 255, flags to 65,535, a cap to 2^64 - 1.
+    pub fn number<N: TryFrom<u64>>(&mut self) -> Option<N> {
+        N::try_from(number_of(self.word()?)?).ok()
     }
 
-    /// A TLV type, 0 to 255.
-    pub fn tlv_type(&mut self) -> Option<u8> {
-        self.number()?.try_into().ok()
+    /// The number 0 or 1.
+    pub fn bit(&mut self) -> Option<bool> {
+        match self.number()? {
+            0u8 => Some(false),
+            1 => Some(true),
+            _ => None,
+        }
     }
 
     pub fn are_all_read(&self) -> bool {

@@ -2,10 +2,9 @@
 
 use meshcop::tlv::TlvEntry;
 
-use super::value;
+use super::{lent, value};
 use crate::answer::{Answer, Found};
 use crate::framed::{self, PlacedEntry};
-use crate::sizes;
 use crate::words::bytes_word;
 
 pub fn frame(dataset: &[u8]) -> Answer {
@@ -28,16 +27,13 @@ pub fn one(bytes: &[u8]) -> Answer {
 
 pub fn rewrite(dataset: &[u8], cap: u64) -> Answer {
     let read = framed::read_dataset(dataset)?;
-    let written = read.dataset.to_bytes().expect("no value of a dataset of 8,192 bytes is over 65,535");
-    sizes::test_room(&written, cap)?;
-    value(bytes_word(&written))
+    lent(&framed::write_dataset(&read.dataset)?, cap)
 }
 
 pub fn entry(ty: u8, bytes: Vec<u8>, cap: u64) -> Answer {
     let mut written = Vec::new();
     TlvEntry::new(ty, bytes).encode(&mut written).map_err(framed::refusal_of_tlv)?;
-    sizes::test_room(&written, cap)?;
-    value(bytes_word(&written))
+    lent(&written, cap)
 }
 
 pub fn raw(ty: u8, bytes: &[u8]) -> Answer {
@@ -45,7 +41,7 @@ pub fn raw(ty: u8, bytes: &[u8]) -> Answer {
     let Some(found) = read.dataset.raw(ty) else {
         return Ok(Found::Absent);
     };
-    let last = read.entries.iter().rev().find(|entry| entry.ty == ty).expect("the Rust found one");
+    let last = read.last(ty).expect("the Rust found one");
     let offset = last.start + last.header;
     assert_eq!(found, &bytes[offset..offset + found.len()], "the Rust's value stands at the derived place");
     value(format!("{} @{offset}", bytes_word(found)))

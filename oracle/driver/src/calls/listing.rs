@@ -2,10 +2,9 @@
 
 use meshcop::dataset::Dataset;
 
-use super::value;
+use super::{lent, value};
 use crate::answer::Answer;
 use crate::framed;
-use crate::sizes;
 use crate::words::bytes_word;
 
 /// The line `entries` and the count, then a line of type and length for each.
@@ -18,16 +17,11 @@ fn listing(dataset: &Dataset) -> String {
 }
 
 pub fn flat(bytes: &[u8], cap: u64) -> Answer {
-    lent(&listing(&framed::read_dataset(bytes)?.dataset), cap)
+    lent(listing(&framed::read_dataset(bytes)?.dataset).as_bytes(), cap)
 }
 
 pub fn hexflat(text: &[u8], cap: u64) -> Answer {
-    lent(&listing(&framed::read_hex_dataset(text)?.dataset), cap)
-}
-
-fn lent(text: &str, cap: u64) -> Answer {
-    sizes::test_room(text.as_bytes(), cap)?;
-    value(bytes_word(text.as_bytes()))
+    lent(listing(&framed::read_hex_dataset(text)?.dataset).as_bytes(), cap)
 }
 
 /// The listing program on that standard input: one final newline is dropped first, and a refusal is its text.

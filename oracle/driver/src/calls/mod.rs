@@ -1,13 +1,18 @@
 //! The table of calls: PROBE.md's names, and for each how its words are read and who answers it.
 
 use crate::answer::{Answer, Found};
-use crate::words::Words;
+use crate::sizes;
+use crate::words::{Words, bytes_word};
 
 mod base16;
+mod edits;
 mod framing;
 mod listing;
+mod parts;
+mod queries;
 
 pub use listing::refusal_printed;
+pub use parts::VERSIONS;
 
 pub struct Call {
     pub name: &'static str,
@@ -20,10 +25,46 @@ pub const ALL: &[Call] = &[
     Call { name: "frame", answer: |w| Some(framing::frame(&w.bytes()?)) },
     Call { name: "one", answer: |w| Some(framing::one(&w.bytes()?)) },
     Call { name: "rewrite", answer: |w| Some(framing::rewrite(&w.bytes()?, w.number()?)) },
-    Call { name: "entry", answer: |w| Some(framing::entry(w.tlv_type()?, w.bytes()?, w.number()?)) },
-    Call { name: "raw", answer: |w| Some(framing::raw(w.tlv_type()?, &w.bytes()?)) },
+    Call { name: "entry", answer: |w| Some(framing::entry(w.number()?, w.bytes()?, w.number()?)) },
+    Call { name: "raw", answer: |w| Some(framing::raw(w.number()?, &w.bytes()?)) },
     Call { name: "hexbytes", answer: |w| Some(base16::hexbytes(&w.bytes()?, w.number()?)) },
     Call { name: "hexframe", answer: |w| Some(base16::hexframe(&w.bytes()?)) },
+    Call { name: "hexdata", answer: |w| Some(base16::hexdata(&w.bytes()?, w.number()?)) },
+    Call { name: "tohex", answer: |w| Some(base16::tohex(&w.bytes()?, w.number()?)) },
+    Call { name: "q.channel", answer: |w| Some(queries::query(&queries::CHANNEL, &w.bytes()?)) },
+    Call { name: "q.panid", answer: |w| Some(queries::query(&queries::PAN_ID, &w.bytes()?)) },
+    Call { name: "q.extpanid", answer: |w| Some(queries::query(&queries::EXTENDED_PAN_ID, &w.bytes()?)) },
+    Call { name: "q.key", answer: |w| Some(queries::query(&queries::NETWORK_KEY, &w.bytes()?)) },
+    Call { name: "q.mlprefix", answer: |w| Some(queries::query(&queries::MESH_LOCAL_PREFIX, &w.bytes()?)) },
+    Call { name: "q.name", answer: |w| Some(queries::query(&queries::NETWORK_NAME, &w.bytes()?)) },
+    Call { name: "q.pskc", answer: |w| Some(queries::query(&queries::PSKC, &w.bytes()?)) },
+    Call { name: "q.policy", answer: |w| Some(queries::query(&queries::SECURITY_POLICY, &w.bytes()?)) },
+    Call { name: "q.activets", answer: |w| Some(queries::query(&queries::ACTIVE_TIMESTAMP, &w.bytes()?)) },
+    Call { name: "q.pendingts", answer: |w| Some(queries::query(&queries::PENDING_TIMESTAMP, &w.bytes()?)) },
+    Call { name: "q.delay", answer: |w| Some(queries::query(&queries::DELAY_TIMER, &w.bytes()?)) },
+    Call { name: "q.mask", answer: |w| Some(queries::query(&queries::CHANNEL_MASK, &w.bytes()?)) },
+    Call { name: "v.channel", answer: |w| Some(queries::bare(&queries::CHANNEL, &w.bytes()?)) },
+    Call { name: "v.panid", answer: |w| Some(queries::bare(&queries::PAN_ID, &w.bytes()?)) },
+    Call { name: "v.extpanid", answer: |w| Some(queries::bare(&queries::EXTENDED_PAN_ID, &w.bytes()?)) },
+    Call { name: "v.key", answer: |w| Some(queries::bare(&queries::NETWORK_KEY, &w.bytes()?)) },
+    Call { name: "v.mlprefix", answer: |w| Some(queries::bare(&queries::MESH_LOCAL_PREFIX, &w.bytes()?)) },
+    Call { name: "v.name", answer: |w| Some(queries::bare(&queries::NETWORK_NAME, &w.bytes()?)) },
+    Call { name: "v.pskc", answer: |w| Some(queries::bare(&queries::PSKC, &w.bytes()?)) },
+    Call { name: "v.policy", answer: |w| Some(queries::bare(&queries::SECURITY_POLICY, &w.bytes()?)) },
+    Call { name: "v.activets", answer: |w| Some(queries::bare(&queries::ACTIVE_TIMESTAMP, &w.bytes()?)) },
+    Call { name: "v.pendingts", answer: |w| Some(queries::bare(&queries::PENDING_TIMESTAMP, &w.bytes()?)) },
+    Call { name: "v.delay", answer: |w| Some(queries::bare(&queries::DELAY_TIMER, &w.bytes()?)) },
+    Call { name: "v.mask", answer: |w| Some(queries::bare(&queries::CHANNEL_MASK, &w.bytes()?)) },
+    Call { name: "maskitem", answer: |w| Some(parts::maskitem(w.number()?, w.bytes()?, w.number()?)) },
+    Call { name: "ts.build", answer: |w| Some(parts::ts_build(w.number()?, w.number()?, w.bit()?)) },
+    Call { name: "ts.parts", answer: |w| parts::ts_parts(&w.bytes()?) },
+    Call { name: "flags.get", answer: |w| Some(parts::flags_get(w.number()?)) },
+    Call { name: "flags.set", answer: |w| Some(parts::flags_set(w.number()?, parts::version_of(w.word()?)?)) },
+    Call { name: "flags.has", answer: |w| Some(parts::flags_has(w.number()?, w.number()?)) },
+    Call { name: "channel.bytes", answer: |w| Some(parts::channel_bytes(w.number()?, w.number()?)) },
+    Call { name: "policy.bytes", answer: |w| Some(parts::policy_bytes(w.number()?, w.number()?)) },
+    Call { name: "set", answer: |w| Some(edits::set(w.number()?, w.bytes()?, &w.bytes()?, w.number()?)) },
+    Call { name: "remove", answer: |w| Some(edits::remove(w.number()?, &w.bytes()?, w.number()?)) },
     Call { name: "flat", answer: |w| Some(listing::flat(&w.bytes()?, w.number()?)) },
     Call { name: "hexflat", answer: |w| Some(listing::hexflat(&w.bytes()?, w.number()?)) },
     Call { name: "prog", answer: |w| Some(listing::prog(&w.bytes()?)) },
@@ -31,4 +72,10 @@ pub const ALL: &[Call] = &[
 
 fn value(words: impl Into<String>) -> Answer {
     Ok(Found::Value(words.into()))
+}
+
+/// What a call writes to a lent output: refusal 11, or the bytes.
+fn lent(written: &[u8], cap: u64) -> Answer {
+    sizes::test_room(written, cap)?;
+    value(bytes_word(written))
 }

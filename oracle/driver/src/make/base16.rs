@@ -1,13 +1,14 @@
-//! Requests on hex texts: `hexbytes`, `hexframe`.
+//! Requests on hex texts: `hexbytes`, `hexframe`, `hexdata`, `tohex`.
 
 use super::Maker;
 use super::caps::{with_cap, with_each_edge_cap, with_edge_caps_in_turn};
-use super::datasets::dataset;
+use super::datasets::{dataset, dataset_edges, whole_dataset};
+use super::edits::{SHAPED, shaped};
 use super::framing::words_of;
 use super::short::{Family, TWO_BYTES, ZERO_OR_ONE_BYTE, string, strings, two_bytes, zero_or_one_byte};
 use super::texts::{damaged_hex_text, dataset_text_edges, digits, length_edges};
 use crate::random::Random;
-use crate::sizes::MOST_HEX_DIGITS;
+use crate::sizes::{MOST_BYTES, MOST_HEX_DIGITS};
 use crate::words::bytes_word;
 
 /// Digits, letters of both cases, and their neighbours.
@@ -59,3 +60,46 @@ pub const HEXFRAME: Maker = Maker {
     edges: |random| words_of(&dataset_text_edges(random)),
     short: &[Family { size: FORKED_TEXTS, words: |number| bytes_word(&forked_text(number)) }],
 };
+
+pub const HEXDATA: Maker = Maker {
+    call: "hexdata",
+    share: 10,
+    random: |random| {
+        let bytes = dataset(random);
+        let words = bytes_word(&damaged_hex_text(random, &bytes));
+        with_cap(random, "hexdata", &words)
+    },
+    edges: hexdata_edges,
+    short: &[Family {
+        size: FORKED_TEXTS,
+        words: |number| format!("{} {}", bytes_word(&forked_text(number)), number % 4),
+    }],
+};
+
+fn hexdata_edges(random: &mut Random) -> Vec<String> {
+    let mut edges = with_edge_caps_in_turn("hexdata", &words_of(&dataset_text_edges(random)));
+    let longest = bytes_word(&digits(random, MOST_HEX_DIGITS));
+    edges.extend(with_each_edge_cap("hexdata", &longest));
+    edges
+}
+
+pub const TOHEX: Maker = Maker {
+    call: "tohex",
+    share: 8,
+    random: |random| {
+        let words = bytes_word(&dataset(random));
+        with_cap(random, "tohex", &words)
+    },
+    edges: tohex_edges,
+    short: &[
+        Family { size: ZERO_OR_ONE_BYTE, words: |number| format!("{} 4", bytes_word(&zero_or_one_byte(number))) },
+        Family { size: SHAPED, words: |number| format!("{} {}", bytes_word(&shaped(number)), 4 + number % 13) },
+    ],
+};
+
+fn tohex_edges(random: &mut Random) -> Vec<String> {
+    let mut edges = with_edge_caps_in_turn("tohex", &words_of(&dataset_edges(random)));
+    let longest = bytes_word(&whole_dataset(random, 3, MOST_BYTES));
+    edges.extend(with_each_edge_cap("tohex", &longest));
+    edges
+}

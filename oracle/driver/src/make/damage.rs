@@ -10,7 +10,8 @@ pub const NO_NUMBERS: &[&str] =
 
 pub const NO_BYTES: &[&str] = &["", "--", "0", "-0", "0g", "0A", "FF", "0x00", "00-", "000", "\u{e9}"];
 
-const NO_CALLS: &[&str] = &["", "fram", "frames", "FRAME", "One", "-", "0", "ok", "refused"];
+const NO_CALLS: &[&str] =
+    &["", "fram", "frames", "FRAME", "One", "-", "0", "ok", "refused", "q", "v.", "q.names", "v.Name", "channel", "ts"];
 
 pub fn spoil(random: &mut Random, request: &str) -> String {
     let words: Vec<&str> = request.split(' ').collect();

@@ -29,9 +29,8 @@ pub fn dataset(random: &mut Random) -> Vec<u8> {
     let whole = if random.once_in(1_000) {
         long_dataset(random)
     } else if random.once_in(12) {
-        let entries = random.pick(&[127, 128, 129, 129, 129, 130, 130, 131]);
-        let spare = random.below(12);
-        whole_dataset(random, entries, 2 * entries + spare)
+        let entries = near_most_entries(random);
+        dataset_of_entries(random, entries)
     } else if random.once_in(60) {
         let entries = random.between(1, 3);
         let bytes = random.between(250, 270);
@@ -42,12 +41,28 @@ pub fn dataset(random: &mut Random) -> Vec<u8> {
     damaged(random, whole)
 }
 
-fn long_dataset(random: &mut Random) -> Vec<u8> {
-    let bytes = match random.below(4) {
-        0 => random.between(600, 9_000),
+/// A number of entries of about 128, more of them over than not.
+pub fn near_most_entries(random: &mut Random) -> usize {
+    random.pick(&[127, 128, 129, 129, 129, 130, 130, 131])
+}
+
+/// So many entries, most of them with values of few bytes or none.
+pub fn dataset_of_entries(random: &mut Random, entries: usize) -> Vec<u8> {
+    let spare = random.below(12);
+    whole_dataset(random, entries, 2 * entries + spare)
+}
+
+/// A number of bytes of about 8,192, in most cases.
+pub fn near_most_bytes(random: &mut Random) -> usize {
+    match random.below(4) {
+        0 => random.between(2_000, 9_000),
         1 => MOST_BYTES,
         _ => random.between(MOST_BYTES - 2, MOST_BYTES + 2),
-    };
+    }
+}
+
+fn long_dataset(random: &mut Random) -> Vec<u8> {
+    let bytes = near_most_bytes(random);
     let entries = random.between(1, MOST_ENTRIES + 2);
     whole_dataset(random, entries, bytes)
 }
@@ -94,7 +109,7 @@ fn entry_of_size(random: &mut Random, size: usize) -> Vec<u8> {
 }
 
 /// The bytes themselves, in most cases; else cut, with a bit turned, a byte lost, bytes added, or others altogether.
-fn damaged(random: &mut Random, mut bytes: Vec<u8>) -> Vec<u8> {
+pub fn damaged(random: &mut Random, mut bytes: Vec<u8>) -> Vec<u8> {
     let place = random.below(bytes.len());
     match random.below(20) {
         0..=2 => bytes.truncate(place),
@@ -154,7 +169,7 @@ fn header_edges(random: &mut Random) -> Vec<Vec<u8>> {
 }
 
 /// As many entries and bytes as a dataset may have, each entry two bytes longer than it need be.
-fn all_headers_long(random: &mut Random) -> Vec<u8> {
+pub fn all_headers_long(random: &mut Random) -> Vec<u8> {
     let length = MOST_BYTES / MOST_ENTRIES - 4;
     let long_entry = |_| entry(random.pick(TYPES), &random.bytes(length), true);
     (0..MOST_ENTRIES).flat_map(long_entry).collect()

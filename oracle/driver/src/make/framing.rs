@@ -153,11 +153,16 @@ fn random_raw(random: &mut Random) -> String {
 }
 
 fn raw_edges(random: &mut Random) -> Vec<String> {
+    with_types(&dataset_edges(random))
+}
+
+/// The words of type and dataset, for each of these; every fourth has no such type.
+pub fn with_types(datasets: &[Vec<u8>]) -> Vec<String> {
     let with_type = |(number, bytes): (usize, &Vec<u8>)| {
         let wanted = if number % 4 == 0 { NO_SUCH_TYPE } else { last_type(bytes) };
         format!("{wanted} {}", bytes_word(bytes))
     };
-    dataset_edges(random).iter().enumerate().map(with_type).collect()
+    datasets.iter().enumerate().map(with_type).collect()
 }
 
 /// The type of a dataset's last entry; of one that is cut or empty, any.

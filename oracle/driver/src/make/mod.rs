@@ -1,17 +1,27 @@
 //! The request maker: an endless sequence of requests for each seed, any part of which can be made by itself.
 
-use std::io::{self, Write};
+use meshcop::dataset::{
+    TLV_ACTIVE_TIMESTAMP, TLV_CHANNEL, TLV_CHANNEL_MASK, TLV_DELAY_TIMER, TLV_EXTENDED_PAN_ID, TLV_MESH_LOCAL_PREFIX,
+    TLV_NETWORK_KEY, TLV_NETWORK_NAME, TLV_PAN_ID, TLV_PENDING_TIMESTAMP, TLV_PSKC, TLV_SECURITY_POLICY,
+};
 
 use crate::random::Random;
+use crate::words::bytes_word;
 
 mod base16;
 mod caps;
 mod damage;
 mod datasets;
+mod edits;
 mod framing;
 mod listing;
+mod masks;
+mod names;
+mod parts;
+mod queries;
 mod short;
 mod texts;
+mod typed;
 
 use short::{Deck, Family};
 
@@ -36,6 +46,42 @@ const MAKERS: &[Maker] = &[
     framing::RAW,
     base16::HEXBYTES,
     base16::HEXFRAME,
+    base16::HEXDATA,
+    base16::TOHEX,
+    queries::query::<TLV_CHANNEL>("q.channel"),
+    queries::query::<TLV_PAN_ID>("q.panid"),
+    queries::query::<TLV_EXTENDED_PAN_ID>("q.extpanid"),
+    queries::query::<TLV_NETWORK_KEY>("q.key"),
+    queries::query::<TLV_MESH_LOCAL_PREFIX>("q.mlprefix"),
+    queries::query::<TLV_NETWORK_NAME>("q.name"),
+    queries::query::<TLV_PSKC>("q.pskc"),
+    queries::query::<TLV_SECURITY_POLICY>("q.policy"),
+    queries::query::<TLV_ACTIVE_TIMESTAMP>("q.activets"),
+    queries::query::<TLV_PENDING_TIMESTAMP>("q.pendingts"),
+    queries::query::<TLV_DELAY_TIMER>("q.delay"),
+    queries::query::<TLV_CHANNEL_MASK>("q.mask"),
+    queries::bare::<TLV_CHANNEL>("v.channel"),
+    queries::bare::<TLV_PAN_ID>("v.panid"),
+    queries::bare::<TLV_EXTENDED_PAN_ID>("v.extpanid"),
+    queries::bare::<TLV_NETWORK_KEY>("v.key"),
+    queries::bare::<TLV_MESH_LOCAL_PREFIX>("v.mlprefix"),
+    queries::V_NAME,
+    queries::V_PSKC,
+    queries::bare::<TLV_SECURITY_POLICY>("v.policy"),
+    queries::bare::<TLV_ACTIVE_TIMESTAMP>("v.activets"),
+    queries::bare::<TLV_PENDING_TIMESTAMP>("v.pendingts"),
+    queries::bare::<TLV_DELAY_TIMER>("v.delay"),
+    queries::V_MASK,
+    parts::MASKITEM,
+    parts::TS_BUILD,
+    parts::TS_PARTS,
+    parts::FLAGS_GET,
+    parts::FLAGS_SET,
+    parts::FLAGS_HAS,
+    parts::CHANNEL_BYTES,
+    parts::POLICY_BYTES,
+    edits::SET,
+    edits::REMOVE,
     listing::FLAT,
     listing::HEXFLAT,
     listing::PROG,
@@ -60,7 +106,7 @@ const PATTERN: [Source; 8] = [
 const SPOILT_ONCE_IN: usize = 80;
 
 /// Families up to this size come first, so that a short run sees all of them.
-const SMALL_FAMILY: usize = 10_000;
+const SMALL_FAMILY: usize = 15_000;
 
 /// All requests of a seed, by case number.
 pub struct Sequence {
@@ -93,7 +139,12 @@ impl Sequence {
         &self.edges
     }
 
-    pub fn request(&self, case: u64) -> String {
+    /// The requests of so many cases, from the first of them on.
+    pub fn requests(&self, first: u64, cases: u64) -> impl Iterator<Item = String> {
+        (first..first.saturating_add(cases)).map(|case| self.request(case))
+    }
+
+    fn request(&self, case: u64) -> String {
         let round = (case / PATTERN.len() as u64) as usize;
         let place = (case % PATTERN.len() as u64) as usize;
         let source = PATTERN[place];
@@ -152,10 +203,8 @@ fn request_of(call: &str, words: &str) -> String {
     format!("{call} {words}")
 }
 
-/// `driver make`: the requests of some cases in a row, a line each.
-pub fn make(sequence: &Sequence, first: u64, cases: u64, mut requests: impl Write) -> io::Result<()> {
-    for case in first..first.saturating_add(cases) {
-        writeln!(requests, "{}", sequence.request(case))?;
-    }
-    requests.flush()
+/// `v.name` for so many names of three bytes, from the first of them on, in order, as far as there are any.
+pub fn three_byte_names(first: u64, cases: u64) -> impl Iterator<Item = String> {
+    let end = first.saturating_add(cases).min(names::THREE_BYTES);
+    (first..end).map(|number| request_of("v.name", &bytes_word(&names::three_bytes(number))))
 }

@@ -45,6 +45,18 @@ pub fn two_bytes(number: usize) -> Vec<u8> {
     (number as u16).to_be_bytes().to_vec()
 }
 
+/// How many strings of so many bytes there are in which one bit differs from all others.
+pub const fn lone_bits(bytes: usize) -> usize {
+    16 * bytes
+}
+
+pub fn lone_bit(bytes: usize, number: usize) -> Vec<u8> {
+    let (bit, others) = (number / 2, [0x00, 0xff][number % 2]);
+    let mut string = vec![others; bytes];
+    string[bit / 8] ^= 0x80 >> (bit % 8);
+    string
+}
+
 /// Deals the members of some families, each once, so that any stretch of them is a mix.
 pub struct Deck {
     families: Vec<(&'static str, &'static Family)>,

@@ -50,11 +50,11 @@ loop-less c = search needs
 loop-again : tie.Need-loop-again Inv-loop μ-loop
 loop-again c = search needs
 
+number-kind-requires : tie.Need-number-kind-requires Inv-loop μ-loop
+number-kind-requires c κs = search needs
+
 returns-5 : tie.Need-returns-5 Inv-loop μ-loop
 returns-5 c = search needs
-
-returns-6 : tie.Need-returns-6 Inv-loop μ-loop
-returns-6 c = search needs
 
 pub number-of-spec : {M : Type 1} → statement M
 number-of-spec =
@@ -75,5 +75,5 @@ number-of-spec =
     add-i
     loop-less
     loop-again
-    returns-5
-    returns-6)
+    number-kind-requires
+    returns-5)

@@ -29,23 +29,8 @@ put-name-requires c κs = search needs
 loop-holds : tie.Need-loop-holds Inv-loop μ-loop
 loop-holds c = search needs
 
-add-until : tie.Need-add-until Inv-loop μ-loop
-add-until c = search needs
-
-until-requires-2 : tie.Need-until-requires-2 Inv-loop μ-loop
-until-requires-2 c κs = search needs
-
 add-value-of : tie.Need-add-value-of Inv-loop μ-loop
 add-value-of c = search needs
-
-sub-value-of : tie.Need-sub-value-of Inv-loop μ-loop
-sub-value-of c = search needs
-
-part-value-of-start : tie.Need-part-value-of-start Inv-loop μ-loop
-part-value-of-start c = search needs
-
-part-value-of-end : tie.Need-part-value-of-end Inv-loop μ-loop
-part-value-of-end c = search needs
 
 value-of-requires : tie.Need-value-of-requires Inv-loop μ-loop
 value-of-requires c κs = search needs
@@ -86,12 +71,7 @@ read-spec =
     part-put-name-end
     put-name-requires
     loop-holds
-    add-until
-    until-requires-2
     add-value-of
-    sub-value-of
-    part-value-of-start
-    part-value-of-end
     value-of-requires
     mul-values
     array-set-from-values

@@ -1,0 +1,162 @@
+-- The network name and the channel mask: a query keeps the entry where its value is good, and its value is then that of the last entry of
+-- the type.
+-- Assumes nothing.
+use mathlib.Core.Path.{_≡_, refl, sym, ap, _∙_}
+use mathlib.Core.Bool.{Bool, true, false}
+use mathlib.Core.List.{List, [], _∷_}
+use mathlib.Core.Logic.{⊎-elim}
+use Prim.Native.Nat.{ℕ, _+_, _≤_}
+use native.Mathlib.Omega.{arith}
+use lib.Dec.{ltb}
+use lib.ListN.{length, take, drop}
+use types.Run.{OneOf}
+use denote.Enum.Declared.{tagOf}
+use Rattle.refusal.specs.Sizes.{mostBytes}
+use Rattle.refusal.specs.Answer.{Answer, given, absent, refused, thenDo, onGiven}
+use Rattle.refusal.specs.Number.{refusalAnswer}
+use Rattle.refusal.specs.declared.Refusal.{Refusal}
+use Rattle.laws.proofs.Tests.{by-test}
+use Rattle.tlv.specs.Entries.{Entry, entry}
+use Rattle.tlv.specs.Last.{lastEntry, spotAt, spot, lastSpot, valueOr, lastValue}
+use Rattle.tlv.specs.Answers.{foundAnswer}
+use Rattle.tlv.specs.declared.Found.{Found}
+use Rattle.tlv.specs.declared.Found.the-variants as f
+use Rattle.tlv.proofs.Found
+use Rattle.tlv.proofs.Lasts.{spot-part}
+use Rattle.utf8.specs.Utf8.{octets}
+use Rattle.values.specs.Mask.{items, maskAnswer}
+use Rattle.values.specs.declared.ReadMask.{ReadMask}
+use Rattle.values.specs.declared.ReadMask.the-variants as m
+use Rattle.values.proofs.ReadMask
+use Rattle.dataset.specs.Queries.{sizedValue, nameAt, nameEntry, maskEntry, maskCount}
+use Rattle.dataset.specs.Answers.{checkedAnswer, checked}
+use Rattle.dataset.specs.declared.Checked.{Checked}
+use Rattle.dataset.specs.declared.Checked.the-variants as c
+use Rattle.dataset.proofs.Checked
+use Rattle.dataset.proofs.Finds.{found}
+
+isGiven : {A : Type 0} → Answer A → Bool
+isGiven (given x) = true
+isGiven absent = false
+isGiven (refused n p i) = false
+
+on-given : {A B : Type 0} (g : A → B) (a : Answer A) → isGiven (onGiven g a) ≡ isGiven a
+unfolding isGiven
+on-given g (given x) = refl
+on-given g absent = refl
+on-given g (refused n p i) = refl
+
+on-refused : {A B C : Type 0} (g : A → B) (h : A → C) (a : Answer A) (n p i : ℕ) → refused n p i ≡ onGiven g a → refused n p i ≡ onGiven h a
+on-refused g h (given x) n p i k = absurd (let z : _≡_ {A = ℕ} 0 1 = cc in omega arith)
+on-refused g h absent n p i k = absurd (let z : _≡_ {A = ℕ} 0 1 = cc in omega arith)
+on-refused g h (refused m q j) n p i k = cc
+
+no-value : (x : Answer Entry) → isGiven x ≡ false → [] ≡ valueOr x
+unfolding isGiven
+no-value (given e) h = absurd (let z : _≡_ {A = ℕ} 0 1 = cc in omega arith)
+no-value absent h = refl
+no-value (refused n p i) h = refl
+
+-- x where g answers for its entry
+abbrev keep : {A : Type 0} → Answer Entry → (Entry → Answer A) → Answer Entry
+keep {A} x g = thenDo x (λ (e : Entry). onGiven (λ (y : A). e) (g e))
+
+module _ {A : Type 0} (g : Entry → Answer A) where
+  keep-is : (x : Answer Entry) → isGiven (keep x g) ≡ true → keep x g ≡ x
+  unfolding isGiven
+  keep-is (given e) h = one (g e) h
+    where
+      one : (a : Answer A) → isGiven (onGiven (λ (y : A). e) a) ≡ true → onGiven (λ (y : A). e) a ≡ given e
+      one (given y) k = refl
+      one absent k = absurd (let z : _≡_ {A = ℕ} 0 1 = cc in omega arith)
+      one (refused n p i) k = absurd (let z : _≡_ {A = ℕ} 0 1 = cc in omega arith)
+  keep-is absent h = refl
+  keep-is (refused n p i) h = refl
+
+  keep-kind : {B : Type 0} (h : A → B) (x : Answer Entry) → isGiven (thenDo x (λ (e : Entry). onGiven h (g e))) ≡ isGiven (keep x g)
+  unfolding isGiven
+  keep-kind h (given e) = on-given h (g e) ∙ sym (on-given _ (g e))
+  keep-kind h absent = refl
+  keep-kind h (refused n p i) = refl
+
+-- ---- the network name
+
+-- a check of a name never says that there is none
+name-there : (place : ℕ) (v : List ℕ) → absent ≡ checked (nameAt place v) → ⊥
+unfolding nameAt sizedValue
+name-there place v k =
+    by-test (ltb mostBytes (length v))
+    (λ t. let z : absent ≡ refused 1 0 0 = k ∙ simp t in let z : _≡_ {A = ℕ} 0 1 = cc in omega arith)
+    (λ t.
+    by-test (octets v)
+    (λ u. let z : absent ≡ given tt = k ∙ simp (t, u) in let z : _≡_ {A = ℕ} 0 1 = cc in omega arith)
+    (λ u. let z : absent ≡ refused 6 place 0 = k ∙ simp (t, u) in let z : _≡_ {A = ℕ} 0 1 = cc in omega arith))
+
+name-given : (place : ℕ) (v : List ℕ) (r : Checked) → OneOf (0 ∷ 1 ∷ []) (tagOf Checked.the-type r) → checkedAnswer r ≡ checked (nameAt place v)
+    → isGiven (nameAt place v) ≡ true
+unfolding isGiven
+name-given place v c.Valid k told = sym (ap isGiven told ∙ on-given _ (nameAt place v))
+name-given place v c.Absent k told = absurd (name-there place v told)
+name-given place v (c.Refused q) k told = ⊎-elim (λ e. absurd (omega arith)) (λ e. absurd (omega arith)) k
+
+not-found : (r : Found) → OneOf (1 ∷ 2 ∷ []) (tagOf Found.the-type r) → isGiven (foundAnswer r) ≡ false
+unfolding isGiven
+not-found (f.At p a n) k = ⊎-elim (λ e. absurd (omega arith)) (λ e. absurd (omega arith)) k
+not-found f.Absent k = refl
+not-found (f.Refused q) k = refl
+
+module _ (s : List ℕ) where
+  name-is : isGiven (nameEntry s) ≡ true → nameEntry s ≡ lastEntry 3 0 s
+  unfolding nameEntry
+  name-is h = keep-is (λ (e : Entry). nameAt (e .place) (e .value)) (lastEntry 3 0 s) h
+
+  -- what `network_name` learns of `check_name`
+  module _ (r : Found) (says : foundAnswer r ≡ lastSpot 3 0 s) (p a n : ℕ) (is : r ≡ f.At p a n) where
+    name-at : (e : Entry) × (nameEntry s ≡ onGiven (λ (v : List ℕ). e) (nameAt p (take n (drop a s))))
+    unfolding nameEntry
+    name-at = let e = found 3 s r says p a n is in (entry p (e .ty) a (take n (drop a s)), rw (e .is))
+
+    module _ (k : Checked) (told : checkedAnswer k ≡ checked (nameAt p (take n (drop a s)))) where
+      pub name-kept : OneOf (0 ∷ 1 ∷ []) (tagOf Checked.the-type k) → given (spotAt p a n) ≡ onGiven spot (nameEntry s)
+      unfolding lastSpot
+      name-kept tag =
+          let there = ap isGiven (name-at .1) ∙ on-given _ (nameAt p (take n (drop a s))) ∙ name-given p _ k tag told in
+          sym (ap foundAnswer is) ∙ says ∙ ap (onGiven spot) (sym (name-is there))
+
+      pub name-refused : (q : Refusal) → k ≡ c.Refused q → refusalAnswer q ≡ onGiven spot (nameEntry s)
+      name-refused q why =
+          ap (onGiven spot) (on-refused _ _ (nameAt p (take n (drop a s))) _ _ _ (sym (ap checkedAnswer why) ∙ told) ∙ sym (name-at .1))
+
+  -- what the caller of `network_name` learns
+  module _ (r : Found) (says : foundAnswer r ≡ onGiven spot (nameEntry s)) where
+    pub name-part : (p a n : ℕ) → r ≡ f.At p a n → (a + n ≤ length s) × (take n (drop a s) ≡ valueOr (nameEntry s))
+    unfolding isGiven lastSpot lastValue
+    name-part p a n is =
+        let told = sym (ap foundAnswer is) ∙ says in
+        let same = name-is (sym (ap isGiven told ∙ on-given spot (nameEntry s))) in
+        let part = spot-part s 3 p a n (told ∙ ap (onGiven spot) same) in
+        (part .0, part .1 ∙ ap valueOr (sym same))
+
+    pub name-none : OneOf (1 ∷ 2 ∷ []) (tagOf Found.the-type r) → [] ≡ valueOr (nameEntry s)
+    name-none k = no-value (nameEntry s) (sym (on-given spot (nameEntry s)) ∙ ap isGiven (sym says) ∙ not-found r k)
+
+-- ---- the channel mask: what the caller of `channel_mask` learns
+not-items : (r : ReadMask) → OneOf (1 ∷ 2 ∷ []) (tagOf ReadMask.the-type r) → isGiven (maskAnswer r) ≡ false
+unfolding isGiven
+not-items (m.Items n) k = ⊎-elim (λ e. absurd (omega arith)) (λ e. absurd (omega arith)) k
+not-items m.Absent k = refl
+not-items (m.Refused q) k = refl
+
+module _ (s : List ℕ) (r : ReadMask) (says : maskAnswer r ≡ maskCount s) where
+  mask-kind : isGiven (maskEntry s) ≡ isGiven (maskAnswer r)
+  unfolding maskEntry maskCount
+  mask-kind = sym (ap isGiven says ∙ keep-kind (λ (e : Entry). items (e .place) (e .value)) length (lastEntry 53 0 s))
+
+  pub mask-value : (n : ℕ) → r ≡ m.Items n → lastValue 53 s ≡ valueOr (maskEntry s)
+  unfolding isGiven maskEntry lastValue
+  mask-value n is =
+      let there = mask-kind ∙ ap (λ (q : ReadMask). isGiven (maskAnswer q)) is in
+      sym (ap valueOr (keep-is (λ (e : Entry). items (e .place) (e .value)) (lastEntry 53 0 s) there))
+
+  pub mask-none : OneOf (1 ∷ 2 ∷ []) (tagOf ReadMask.the-type r) → [] ≡ valueOr (maskEntry s)
+  mask-none k = no-value (maskEntry s) (mask-kind ∙ not-items r k)

@@ -1,0 +1,64 @@
+-- The queries on a dataset: "A query uses the last entry of its type" (document 01), 1, 2, 3 before the value's own fault at the entry's place.
+-- Assumes nothing.
+use Prim.Native.Nat.{ℕ}
+use mathlib.Core.List.{List, [], _∷_}
+use lib.ListN.{length}
+use lib.Dec.{ltb, eqb}
+use Rattle.refusal.specs.Sizes.{mostBytes}
+use Rattle.refusal.specs.Answer.{pick, Answer, given, refused, thenDo, onGiven}
+use Rattle.wire.specs.Be.{ruled}
+use Rattle.tlv.specs.Entries.{Entry}
+use Rattle.tlv.specs.Last.{lastEntry}
+use Rattle.utf8.specs.Utf8.{octets}
+use Rattle.values.specs.Mask.{items, Masked}
+
+-- a type, and the length that its value must have
+pub record Rule : Type 0 where
+  pub ty : ℕ
+  pub len : ℕ
+
+abbrev pub rule : (ty len : ℕ) → Rule
+rule t n = record { ty = t; len = n }
+
+-- "Lengths: channel 3 (page, number); PAN ID 2; extended PAN ID 8; network key 16; mesh-local prefix 8; each timestamp 8; delay 4; security
+-- policy 4 (rotation, flags)", in the order of dataset.rs
+abbrev pub rules : List Rule
+rules =
+    rule 0 3  -- channel
+    ∷ rule 1 2  -- PAN ID
+    ∷ rule 2 8  -- extended PAN ID
+    ∷ rule 5 16  -- network key
+    ∷ rule 7 8  -- mesh-local prefix
+    ∷ rule 12 4  -- security policy
+    ∷ rule 14 8  -- active timestamp
+    ∷ rule 51 8  -- pending timestamp
+    ∷ rule 52 4  -- delay timer
+    ∷ []
+
+abbrev pub lengthIn : List Rule → (ty : ℕ) → ℕ
+lengthIn [] ty = 0
+lengthIn (r ∷ rs) ty = pick (eqb (r .ty) ty) (r .len) (lengthIn rs ty)
+
+-- what f reads of the value of a type that has a rule
+unfoldable pub query : {A : Type 0} → (ty : ℕ) → (List ℕ → A) → List ℕ → Answer A
+query ty f s = thenDo (lastEntry ty 0 s) (λ (e : Entry). onGiven f (ruled (lengthIn rules ty) (e .place) (e .value)))
+
+-- a value of any length, within the size
+unfoldable pub sizedValue : List ℕ → Answer (List ℕ)
+sizedValue v = pick (ltb mostBytes (length v)) (refused 1 0 0) (given v)
+
+-- a network name: "valid UTF-8, empty allowed", else 6 at the place of its entry
+unfoldable pub nameAt : (place : ℕ) → List ℕ → Answer (List ℕ)
+nameAt place v = thenDo (sizedValue v) (λ (w : List ℕ). pick (octets w) (given w) (refused 6 place 0))
+
+-- the entry of the network name (type 3), where its value is one
+unfoldable pub nameEntry : List ℕ → Answer Entry
+nameEntry s = thenDo (lastEntry 3 0 s) (λ (e : Entry). onGiven (λ (v : List ℕ). e) (nameAt (e .place) (e .value)))
+
+-- the entry of the channel mask (type 53), where its items are whole
+unfoldable pub maskEntry : List ℕ → Answer Entry
+maskEntry s = thenDo (lastEntry 53 0 s) (λ (e : Entry). onGiven (λ (is : List Masked). e) (items (e .place) (e .value)))
+
+-- how many items it has
+unfoldable pub maskCount : List ℕ → Answer ℕ
+maskCount s = thenDo (lastEntry 53 0 s) (λ (e : Entry). onGiven length (items (e .place) (e .value)))

@@ -1,0 +1,411 @@
+// A dataset (dataset.rs): its typed queries, its edits, and its hex text.
+use refusal::Fault;
+use refusal::Refusal;
+use refusal::Written;
+use tlv::Choice;
+use tlv::Counted;
+use tlv::Found;
+use values::Channel;
+use values::ReadChannel;
+use values::ReadMask;
+use values::ReadPolicy;
+use values::ReadTimestamp;
+use values::SecurityPolicy;
+use values::Timestamp;
+use wire::Read16;
+use wire::Read32;
+ghost use mathlib.Core.Path.{_≡_};
+ghost use mathlib.Core.List.{List};
+ghost use Prim.Native.Nat.{ℕ};
+ghost use Rattle.refusal.specs.Answer.{onGiven};
+ghost use Rattle.refusal.specs.Output.{output, emit, writtenAnswer};
+ghost use Rattle.wire.specs.Be.{be, ruled, answer16, answer32};
+ghost use Rattle.tlv.specs.Last.{spot, lastSpot, lastValue, valueOr};
+ghost use Rattle.tlv.specs.Encode.{rewritten, withSet};
+ghost use Rattle.tlv.specs.Answers.{foundAnswer};
+ghost use Rattle.tlv.specs.declared.Choice.the-variants.{All, Without};
+ghost use Rattle.values.specs.Typed.{channelOf, channelAnswer, timestampOf, timestampAnswer, policyOf, policyAnswer};
+ghost use Rattle.values.specs.Mask.{maskAnswer};
+ghost use Rattle.dataset.specs.Queries.{rules, lengthIn, query, sizedValue, nameAt, nameEntry, maskEntry, maskCount};
+ghost use Rattle.dataset.specs.Edits.{hexOf, wellFramed, fromHex};
+ghost use Rattle.dataset.specs.Answers.{checkedAnswer, checked, copy8, copy16, copied};
+
+pub const TLV_CHANNEL: u8 = 0x00;
+
+pub const TLV_PAN_ID: u8 = 0x01;
+
+pub const TLV_EXTENDED_PAN_ID: u8 = 0x02;
+
+pub const TLV_NETWORK_NAME: u8 = 0x03;
+
+pub const TLV_PSKC: u8 = 0x04;
+
+pub const TLV_NETWORK_KEY: u8 = 0x05;
+
+pub const TLV_MESH_LOCAL_PREFIX: u8 = 0x07;
+
+pub const TLV_SECURITY_POLICY: u8 = 0x0c;
+
+pub const TLV_ACTIVE_TIMESTAMP: u8 = 0x0e;
+
+pub const TLV_PENDING_TIMESTAMP: u8 = 0x33;
+
+pub const TLV_DELAY_TIMER: u8 = 0x34;
+
+pub const TLV_CHANNEL_MASK: u8 = 0x35;
+
+// Whether a value is there and keeps its rule.
+pub enum Checked {
+    Valid,
+    Absent,
+    Refused(Refusal),
+}
+
+// A copy of a value of 8 bytes, or zeros and why there is none.
+pub struct Array8 {
+    pub answer: Checked,
+    pub bytes: [u8; 8],
+}
+
+// A copy of a value of 16 bytes, or zeros and why there is none.
+pub struct Array16 {
+    pub answer: Checked,
+    pub bytes: [u8; 16],
+}
+
+// The 8 bytes of a value of that length. Refusals: 1, then 4 at the place of its entry, which is 0 for a bare value.
+pub fn read_array_8(value: &[u8], place: usize) -> Array8
+    ensures { λ r. ⌜ copy8 r ≡ copied 8 (ruled 8 place (now (value .entry))) ⌝ }
+{
+    let n = value.len();
+    if n != 8 {
+        return Array8 {
+            answer: Checked::Refused(wire::misfit(n, place)),
+            bytes: [0u8; 8],
+        };
+    }
+    Array8 {
+        answer: Checked::Valid,
+        bytes: [
+            value[0],
+            value[1],
+            value[2],
+            value[3],
+            value[4],
+            value[5],
+            value[6],
+            value[7],
+        ],
+    }
+}
+
+// The same of 16 bytes.
+pub fn read_array_16(value: &[u8], place: usize) -> Array16
+    ensures { λ r. ⌜ copy16 r ≡ copied 16 (ruled 16 place (now (value .entry))) ⌝ }
+{
+    let n = value.len();
+    if n != 16 {
+        return Array16 {
+            answer: Checked::Refused(wire::misfit(n, place)),
+            bytes: [0u8; 16],
+        };
+    }
+    let mut bytes = [0u8; 16];
+    let mut i: usize = 0;
+    while i < 16 {
+        bytes[i] = value[i];
+        i += 1;
+    }
+    Array16 {
+        answer: Checked::Valid,
+        bytes: bytes,
+    }
+}
+
+// A bare value of any length, as a PSKc is. Refusal: 1.
+pub fn check_bytes(value: &[u8]) -> Checked
+    ensures { λ r. ⌜ checkedAnswer r ≡ checked (sizedValue (now (value .entry))) ⌝ }
+{
+    if value.len() > refusal::MAX_BYTES {
+        return Checked::Refused(Refusal {
+            fault: Fault::TooLarge,
+            place: 0,
+            input: 0,
+        });
+    }
+    Checked::Valid
+}
+
+// A network name. Refusals: 1, then 6 at the place of its entry, which is 0 for a bare value.
+pub fn check_name(value: &[u8], place: usize) -> Checked
+    ensures { λ r. ⌜ checkedAnswer r ≡ checked (nameAt place (now (value .entry))) ⌝ }
+{
+    if value.len() > refusal::MAX_BYTES {
+        return Checked::Refused(Refusal {
+            fault: Fault::TooLarge,
+            place: 0,
+            input: 0,
+        });
+    }
+    if utf8::is_utf8(value) {
+        return Checked::Valid;
+    }
+    Checked::Refused(Refusal {
+        fault: Fault::NotUtf8,
+        place: place,
+        input: 0,
+    })
+}
+
+// Where the last entry of a type lies. Refusals: 1, 2, 3.
+pub fn raw(s: &[u8], ty: u8) -> Found
+    ensures { λ r. ⌜ foundAnswer r ≡ lastSpot ty 0 (now (s .entry)) ⌝ }
+{
+    tlv::last_entry(s, ty, 0)
+}
+
+// Its value, as a part of s; no bytes where there is none (`raw` tells which).
+pub fn raw_value<'a>(s: &'a [u8], ty: u8) -> &'a [u8]
+    ensures { λ r. ⌜ now r ≡ lastValue ty (now (s .entry)) ⌝ }
+{
+    tlv::last_value(s, ty)
+}
+
+// Where the PSKc lies. Refusals: 1, 2, 3.
+pub fn pskc(s: &[u8]) -> Found
+    ensures { λ r. ⌜ foundAnswer r ≡ lastSpot 4 0 (now (s .entry)) ⌝ }
+{
+    tlv::last_entry(s, TLV_PSKC, 0)
+}
+
+pub fn pskc_value<'a>(s: &'a [u8]) -> &'a [u8]
+    ensures { λ r. ⌜ now r ≡ lastValue 4 (now (s .entry)) ⌝ }
+{
+    tlv::last_value(s, TLV_PSKC)
+}
+
+// Where the network name lies. Refusals: 1, 2, 3, then 6 at its entry.
+pub fn network_name(s: &[u8]) -> Found
+    ensures { λ r. ⌜ foundAnswer r ≡ onGiven spot (nameEntry (now (s .entry))) ⌝ }
+{
+    match tlv::last_entry(s, TLV_NETWORK_NAME, 0) {
+        Found::At { place, start, len } => {
+            let end = start + len;
+            match check_name(&s[start..end], place) {
+                Checked::Refused(r) => Found::Refused(r),
+                _ => Found::At {
+                    place: place,
+                    start: start,
+                    len: len,
+                },
+            }
+        }
+        Found::Absent => Found::Absent,
+        Found::Refused(r) => Found::Refused(r),
+    }
+}
+
+// The network name, as a part of s; no bytes where there is none (`network_name` tells which).
+pub fn network_name_value<'a>(s: &'a [u8]) -> &'a [u8]
+    ensures { λ r. ⌜ now r ≡ valueOr (nameEntry (now (s .entry))) ⌝ }
+{
+    match network_name(s) {
+        Found::At {
+            place: _,
+            start,
+            len,
+        } => &s[start..start + len],
+        _ => &s[..0],
+    }
+}
+
+// The typed queries. Refusals: 1, 2, 3, then 4 at the value's entry.
+pub fn channel(s: &[u8]) -> ReadChannel
+    ensures { λ r. ⌜ channelAnswer r ≡ query 0 channelOf (now (s .entry)) ⌝ }
+{
+    match tlv::last_entry(s, TLV_CHANNEL, 0) {
+        Found::At { place, start, len } => Channel::parse(&s[start..start + len], place),
+        Found::Absent => ReadChannel::Absent,
+        Found::Refused(r) => ReadChannel::Refused(r),
+    }
+}
+
+pub fn pan_id(s: &[u8]) -> Read16
+    ensures { λ r. ⌜ answer16 r ≡ query 1 be (now (s .entry)) ⌝ }
+{
+    match tlv::last_entry(s, TLV_PAN_ID, 0) {
+        Found::At { place, start, len } => wire::read_u16(&s[start..start + len], place),
+        Found::Absent => Read16::Absent,
+        Found::Refused(r) => Read16::Refused(r),
+    }
+}
+
+pub fn delay_timer(s: &[u8]) -> Read32
+    ensures { λ r. ⌜ answer32 r ≡ query 52 be (now (s .entry)) ⌝ }
+{
+    match tlv::last_entry(s, TLV_DELAY_TIMER, 0) {
+        Found::At { place, start, len } => wire::read_u32(&s[start..start + len], place),
+        Found::Absent => Read32::Absent,
+        Found::Refused(r) => Read32::Refused(r),
+    }
+}
+
+// The timestamp of a type: what the two queries below share.
+fn timestamp(s: &[u8], ty: u8) -> ReadTimestamp
+    requires { ⌜ lengthIn rules ty ≡ 8 ⌝ }
+    ensures { λ r. ⌜ timestampAnswer r ≡ query ty timestampOf (now (s .entry)) ⌝ }
+{
+    match tlv::last_entry(s, ty, 0) {
+        Found::At { place, start, len } => Timestamp::parse(&s[start..start + len], place),
+        Found::Absent => ReadTimestamp::Absent,
+        Found::Refused(r) => ReadTimestamp::Refused(r),
+    }
+}
+
+pub fn active_timestamp(s: &[u8]) -> ReadTimestamp
+    ensures { λ r. ⌜ timestampAnswer r ≡ query 14 timestampOf (now (s .entry)) ⌝ }
+{
+    timestamp(s, TLV_ACTIVE_TIMESTAMP)
+}
+
+pub fn pending_timestamp(s: &[u8]) -> ReadTimestamp
+    ensures { λ r. ⌜ timestampAnswer r ≡ query 51 timestampOf (now (s .entry)) ⌝ }
+{
+    timestamp(s, TLV_PENDING_TIMESTAMP)
+}
+
+pub fn security_policy(s: &[u8]) -> ReadPolicy
+    ensures { λ r. ⌜ policyAnswer r ≡ query 12 policyOf (now (s .entry)) ⌝ }
+{
+    match tlv::last_entry(s, TLV_SECURITY_POLICY, 0) {
+        Found::At { place, start, len } => SecurityPolicy::parse(&s[start..start + len], place),
+        Found::Absent => ReadPolicy::Absent,
+        Found::Refused(r) => ReadPolicy::Refused(r),
+    }
+}
+
+// The 8 bytes of a type: what the two queries below share.
+fn array_8(s: &[u8], ty: u8) -> Array8
+    requires { ⌜ lengthIn rules ty ≡ 8 ⌝ }
+    ensures { λ r. ⌜ copy8 r ≡ copied 8 (query ty (λ (v : List ℕ). v) (now (s .entry))) ⌝ }
+{
+    match tlv::last_entry(s, ty, 0) {
+        Found::At { place, start, len } => read_array_8(&s[start..start + len], place),
+        Found::Absent => Array8 {
+            answer: Checked::Absent,
+            bytes: [0u8; 8],
+        },
+        Found::Refused(r) => Array8 {
+            answer: Checked::Refused(r),
+            bytes: [0u8; 8],
+        },
+    }
+}
+
+pub fn extended_pan_id(s: &[u8]) -> Array8
+    ensures { λ r. ⌜ copy8 r ≡ copied 8 (query 2 (λ (v : List ℕ). v) (now (s .entry))) ⌝ }
+{
+    array_8(s, TLV_EXTENDED_PAN_ID)
+}
+
+pub fn mesh_local_prefix(s: &[u8]) -> Array8
+    ensures { λ r. ⌜ copy8 r ≡ copied 8 (query 7 (λ (v : List ℕ). v) (now (s .entry))) ⌝ }
+{
+    array_8(s, TLV_MESH_LOCAL_PREFIX)
+}
+
+pub fn network_key(s: &[u8]) -> Array16
+    ensures { λ r. ⌜ copy16 r ≡ copied 16 (query 5 (λ (v : List ℕ). v) (now (s .entry))) ⌝ }
+{
+    match tlv::last_entry(s, TLV_NETWORK_KEY, 0) {
+        Found::At { place, start, len } => read_array_16(&s[start..start + len], place),
+        Found::Absent => Array16 {
+            answer: Checked::Absent,
+            bytes: [0u8; 16],
+        },
+        Found::Refused(r) => Array16 {
+            answer: Checked::Refused(r),
+            bytes: [0u8; 16],
+        },
+    }
+}
+
+// How many items the channel mask has. Refusals: 1, 2, 3, then 5 at its entry.
+pub fn channel_mask(s: &[u8]) -> ReadMask
+    ensures { λ r. ⌜ maskAnswer r ≡ maskCount (now (s .entry)) ⌝ }
+{
+    match tlv::last_entry(s, TLV_CHANNEL_MASK, 0) {
+        Found::At { place, start, len } => values::count_mask_items(&s[start..start + len], place),
+        Found::Absent => ReadMask::Absent,
+        Found::Refused(r) => ReadMask::Refused(r),
+    }
+}
+
+// The channel mask, as a part of s to walk with `values::mask_item_at`; no bytes where there is none (`channel_mask` tells which).
+pub fn channel_mask_value<'a>(s: &'a [u8]) -> &'a [u8]
+    ensures { λ r. ⌜ now r ≡ valueOr (maskEntry (now (s .entry))) ⌝ }
+{
+    match channel_mask(s) {
+        ReadMask::Items(_) => tlv::last_value(s, TLV_CHANNEL_MASK),
+        _ => &s[..0],
+    }
+}
+
+// The edits, into a lent output. Setting: 1, 2, 3, 13, 10, 11.
+pub fn set_raw(s: &[u8], ty: u8, value: &[u8], out: &mut [u8]) -> Written
+    ensures { λ r. ⌜ output (writtenAnswer r) (now (out .exit)) ≡ emit (withSet ty (now (value .entry)) (now (s .entry))) (now (out .entry)) ⌝ }
+{
+    tlv::set_last(s, ty, value, out)
+}
+
+// Removing: 1, 2, 3, 11.
+pub fn remove_all(s: &[u8], ty: u8, out: &mut [u8]) -> Written
+    ensures { λ r. ⌜ output (writtenAnswer r) (now (out .exit)) ≡ emit (rewritten (Without ty) (now (s .entry))) (now (out .entry)) ⌝ }
+{
+    tlv::write_kept(s, Choice::Without(ty), out)
+}
+
+// Written afresh: 1, 2, 3, 11.
+pub fn to_bytes(s: &[u8], out: &mut [u8]) -> Written
+    ensures { λ r. ⌜ output (writtenAnswer r) (now (out .exit)) ≡ emit (rewritten All (now (s .entry))) (now (out .entry)) ⌝ }
+{
+    tlv::rewrite(s, out)
+}
+
+// Written afresh, as hex text in lower case: 1, 2, 3, 11.
+pub fn to_hex(s: &[u8], out: &mut [u8]) -> Written
+    ensures { λ r. ⌜ output (writtenAnswer r) (now (out .exit)) ≡ emit (hexOf (now (s .entry))) (now (out .entry)) ⌝ }
+{
+    let mut bytes = [0u8; refusal::MAX_BYTES];
+    match tlv::rewrite(s, &mut bytes) {
+        Written::Refused(r) => Written::Refused(r),
+        Written::Bytes(n) => base16::encode(&bytes[0..n], out),
+    }
+}
+
+// The bytes of a dataset in hex text, as decoded: 1, 7, 8, 2, 3, 11.
+pub fn from_hex(text: &[u8], out: &mut [u8]) -> Written
+    ensures { λ r. ⌜ output (writtenAnswer r) (now (out .exit)) ≡ emit (fromHex (now (text .entry))) (now (out .entry)) ⌝ }
+{
+    let mut bytes = [0u8; refusal::MAX_BYTES];
+    match base16::decode(text, &mut bytes) {
+        Written::Refused(r) => Written::Refused(r),
+        Written::Bytes(n) => framed_copy(&bytes[0..n], out),
+    }
+}
+
+// A dataset's bytes as they are, at the start of out, where they are well-formed.
+fn framed_copy(s: &[u8], out: &mut [u8]) -> Written
+    ensures { λ r. ⌜ output (writtenAnswer r) (now (out .exit)) ≡ emit (wellFramed (now (s .entry))) (now (out .entry)) ⌝ }
+{
+    match tlv::count_entries(s, 0) {
+        Counted::Refused(r) => {
+            return Written::Refused(r);
+        }
+        Counted::Entries(_) => {}
+    }
+    if s.len() > out.len() {
+        return refusal::refuse(Fault::NoRoom, 0);
+    }
+    Written::Bytes(wire::put_bytes(s, out, 0))
+}

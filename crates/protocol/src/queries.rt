@@ -1,0 +1,133 @@
+// Typed queries of a dataset, `q.KIND`, and the same of a bare value, `v.KIND`.
+use crate::masks::put_mask;
+use crate::requests::Values;
+use crate::requests::asks;
+use crate::rooms::Room;
+use crate::typed::put_array_8;
+use crate::typed::put_array_16;
+use crate::typed::put_channel;
+use crate::typed::put_checked;
+use crate::typed::put_found;
+use crate::typed::put_policy;
+use crate::typed::put_timestamp;
+use crate::typed::put_u16;
+use crate::typed::put_u32;
+use values::Channel;
+use values::SecurityPolicy;
+use values::Timestamp;
+
+fn number_queries(request: &Room, s: &[u8], text: &mut Room, at: usize) -> usize {
+    if asks(request, b"q.channel b") {
+        return put_channel(text, at, dataset::channel(s));
+    }
+    if asks(request, b"q.panid b") {
+        return put_u16(text, at, dataset::pan_id(s));
+    }
+    if asks(request, b"q.delay b") {
+        return put_u32(text, at, dataset::delay_timer(s));
+    }
+    if asks(request, b"q.activets b") {
+        return put_timestamp(text, at, dataset::active_timestamp(s));
+    }
+    if asks(request, b"q.pendingts b") {
+        return put_timestamp(text, at, dataset::pending_timestamp(s));
+    }
+    if asks(request, b"q.policy b") {
+        return put_policy(text, at, dataset::security_policy(s));
+    }
+    at
+}
+
+fn byte_queries(request: &Room, s: &[u8], text: &mut Room, at: usize) -> usize {
+    if asks(request, b"q.extpanid b") {
+        return put_array_8(text, at, dataset::extended_pan_id(s));
+    }
+    if asks(request, b"q.mlprefix b") {
+        return put_array_8(text, at, dataset::mesh_local_prefix(s));
+    }
+    if asks(request, b"q.key b") {
+        return put_array_16(text, at, dataset::network_key(s));
+    }
+    if asks(request, b"q.name b") {
+        return put_found(
+            text,
+            at,
+            dataset::network_name(s),
+            dataset::network_name_value(s),
+        );
+    }
+    if asks(request, b"q.pskc b") {
+        return put_found(text, at, dataset::pskc(s), dataset::pskc_value(s));
+    }
+    if asks(request, b"q.mask b") {
+        return put_mask(
+            text,
+            at,
+            dataset::channel_mask(s),
+            dataset::channel_mask_value(s),
+        );
+    }
+    at
+}
+
+pub(crate) fn query_texts(request: &Room, v: Values, text: &mut Room, at: usize) -> usize {
+    let s = v.bytes(request, 1);
+    let end = number_queries(request, s, text, at);
+    if end != at {
+        return end;
+    }
+    byte_queries(request, s, text, at)
+}
+
+fn number_values(request: &Room, s: &[u8], text: &mut Room, at: usize) -> usize {
+    if asks(request, b"v.channel b") {
+        return put_channel(text, at, Channel::parse(s, 0));
+    }
+    if asks(request, b"v.panid b") {
+        return put_u16(text, at, wire::read_u16(s, 0));
+    }
+    if asks(request, b"v.delay b") {
+        return put_u32(text, at, wire::read_u32(s, 0));
+    }
+    if asks(request, b"v.activets b") {
+        return put_timestamp(text, at, Timestamp::parse(s, 0));
+    }
+    if asks(request, b"v.pendingts b") {
+        return put_timestamp(text, at, Timestamp::parse(s, 0));
+    }
+    if asks(request, b"v.policy b") {
+        return put_policy(text, at, SecurityPolicy::parse(s, 0));
+    }
+    at
+}
+
+fn byte_values(request: &Room, s: &[u8], text: &mut Room, at: usize) -> usize {
+    if asks(request, b"v.extpanid b") {
+        return put_array_8(text, at, dataset::read_array_8(s, 0));
+    }
+    if asks(request, b"v.mlprefix b") {
+        return put_array_8(text, at, dataset::read_array_8(s, 0));
+    }
+    if asks(request, b"v.key b") {
+        return put_array_16(text, at, dataset::read_array_16(s, 0));
+    }
+    if asks(request, b"v.name b") {
+        return put_checked(text, at, dataset::check_name(s, 0), s);
+    }
+    if asks(request, b"v.pskc b") {
+        return put_checked(text, at, dataset::check_bytes(s), s);
+    }
+    if asks(request, b"v.mask b") {
+        return put_mask(text, at, values::count_mask_items(s, 0), s);
+    }
+    at
+}
+
+pub(crate) fn value_texts(request: &Room, v: Values, text: &mut Room, at: usize) -> usize {
+    let s = v.bytes(request, 1);
+    let end = number_values(request, s, text, at);
+    if end != at {
+        return end;
+    }
+    byte_values(request, s, text, at)
+}

@@ -1,0 +1,21 @@
+//! Changes of a dataset: `set`, `remove`.
+
+use super::lent;
+use crate::answer::Answer;
+use crate::framed;
+use crate::sizes;
+
+pub fn set(ty: u8, value: Vec<u8>, bytes: &[u8], cap: u64) -> Answer {
+    let mut dataset = framed::read_dataset(bytes)?.dataset;
+    dataset.set_raw(ty, value);
+    let written = framed::write_dataset(&dataset)?;
+    sizes::test_result(&dataset, &written)?;
+    lent(&written, cap)
+}
+
+/// What is left is no longer than what was read, so 10 is not tested.
+pub fn remove(ty: u8, bytes: &[u8], cap: u64) -> Answer {
+    let mut dataset = framed::read_dataset(bytes)?.dataset;
+    dataset.remove_all(ty);
+    lent(&framed::write_dataset(&dataset)?, cap)
+}
