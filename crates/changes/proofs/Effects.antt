@@ -32,7 +32,7 @@ pub run-empty : (os : List Op) → Within os → sized (runAll os []) ≡ given 
 unfolding without
 run-empty os w = ap sized (run-is os []) ∙ sets-fit os w
 
-sets-puts : (os : List Op) → map set (puts (setsOf os)) ≡ setsOf os
+pub sets-puts : (os : List Op) → map set (puts (setsOf os)) ≡ setsOf os
 unfolding puts setsOf
 sets-puts [] = refl
 sets-puts (set c ∷ os) = ap (λ r. set c ∷ r) (sets-puts os)

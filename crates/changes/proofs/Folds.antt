@@ -87,7 +87,7 @@ module _ (P : Op → Type 0) where
 abbrev pub Typed : List Op → Type 0
 Typed = Every (λ (o : Op). about o < types)
 
-touches-typed : (os : List Op) → Typed os → (t : ℕ) → types ≤ t → touches os t ≡ false
+pub touches-typed : (os : List Op) → Typed os → (t : ℕ) → types ≤ t → touches os t ≡ false
 unfolding touches
 touches-typed [] g t h = refl
 touches-typed (o ∷ os) g t h = rw (ne-eqb (about o) t (λ e. omega arith)) (touches-typed os (g .1) t h)

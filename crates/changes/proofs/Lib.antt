@@ -7,3 +7,11 @@ pub mod Limits
 pub mod Effects
 pub mod Demand
 pub mod Bench
+pub mod Papers
+pub mod Places
+pub mod Counts
+pub mod Marks
+pub mod Turns
+pub mod Writes
+pub mod Removals
+pub mod Results

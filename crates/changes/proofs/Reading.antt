@@ -23,12 +23,12 @@ use Rattle.laws.proofs.Parts.{every-append, every-parts, every-take, every-drop
 -- ---- what stands first
 
 -- the first `size` bytes of s were read and rest is left; where s is bytes, what was read is written as enc in bytes, and no longer
-record Taken (s enc rest : List ℕ) : Type 0 where
-  size : ℕ
-  some : 1 ≤ size
-  inside : size ≤ length s
-  left : rest ≡ drop size s
-  octets : Bytes s → (length enc ≤ size) × Bytes enc
+pub record Taken (s enc rest : List ℕ) : Type 0 where
+  pub size : ℕ
+  pub some : 1 ≤ size
+  pub inside : size ≤ length s
+  pub left : rest ≡ drop size s
+  pub octets : Bytes s → (length enc ≤ size) × Bytes enc
 
 -- an entry that stands first
 abbrev TakenEntry : List ℕ → First → Type 0
@@ -80,7 +80,7 @@ entry-taken (t ∷ l ∷ r) =
     valued-taken t 2 l (t ∷ l ∷ []) r (omega arith) (λ o. rw (header-short t l (omega arith)) (omega arith, o)))
 
 -- an operation that stands first
-abbrev TakenOp : List ℕ → FirstOp → Type 0
+abbrev pub TakenOp : List ℕ → FirstOp → Type 0
 TakenOp s nothing = Unit {0}
 TakenOp s bad = Unit {0}
 TakenOp s (operation o rest) = Taken s (encodeOp o) rest
@@ -108,7 +108,7 @@ removal-taken m k (t ∷ r) = record {
   octets = λ o. (omega arith, (omega arith, (omega arith, (o .1 .1 .0, tt))));
 }
 
-op-taken : (s : List ℕ) → TakenOp s (firstOp s)
+pub op-taken : (s : List ℕ) → TakenOp s (firstOp s)
 unfolding firstOp
 op-taken [] = tt
 op-taken (m ∷ []) = tt
