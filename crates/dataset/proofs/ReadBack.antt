@@ -3,7 +3,7 @@
 -- Assumes nothing.
 use mathlib.Core.Path.{_≡_, refl, sym, ap, _∙_}
 use mathlib.Core.Bool.{Bool, true, false}
-use mathlib.Core.List.{List, [], _∷_, _++_}
+use mathlib.Core.List.{List, [], _∷_, _++_, append-nil}
 use Prim.Native.Nat.{ℕ, _≤_}
 use native.Mathlib.Omega.{arith}
 use lib.Dec.{eqb, ltb}
@@ -202,3 +202,47 @@ module _ (t : ℕ) (s bs : List ℕ) (b : Bytes s) (done : rewritten (Without t)
 pub afresh-read : (s bs : List ℕ) → Bytes s → rewritten All s ≡ given bs → (ty : ℕ) → valueOf (lastEntry ty 0 bs) ≡ valueOf (lastEntry ty 0 s)
 unfolding keepsOf
 afresh-read s bs b done ty = kept-read All s bs b done ty refl
+
+-- ---- setting twice is setting the last
+module _ (c : Choice) where
+  kept-append : (cs ds : List Content) → kept c (cs ++ ds) ≡ kept c cs ++ kept c ds
+  unfolding kept
+  kept-append [] ds = refl
+  kept-append (x ∷ xs) ds =
+      by-test (keepsOf c (x .ty)) (λ e. rw e (ap (λ (l : List Content). x ∷ l) (kept-append xs ds))) (λ e. rw e (kept-append xs ds))
+
+  kept-twice : (cs : List Content) → kept c (kept c cs) ≡ kept c cs
+  unfolding kept
+  kept-twice [] = refl
+  kept-twice (x ∷ xs) =
+      by-test (keepsOf c (x .ty)) (λ e. rw e (simp e (ap (λ (l : List Content). x ∷ l) (kept-twice xs)))) (λ e. rw e (kept-twice xs))
+
+-- what was set last is not kept
+kept-none : (t : ℕ) (v : List ℕ) → kept (Without t) (content t v ∷ []) ≡ []
+unfolding kept
+kept-none t v = rw (without-itself t)
+
+set-over : (t : ℕ) (v w : List ℕ) (cs : List Content) → setLast t w (setLast t v cs) ≡ setLast t w cs
+unfolding setLast
+set-over t v w cs =
+    let rest = kept (Without t) cs in
+    let old : kept (Without t) (rest ++ (content t v ∷ [])) ≡ rest
+    = kept-append (Without t) rest (content t v ∷ [])
+    ∙ ap (λ (l : List Content). kept (Without t) rest ++ l) (kept-none t v)
+    ∙ append-nil (kept (Without t) rest)
+    ∙ kept-twice (Without t) cs in
+    ap (λ (l : List Content). l ++ (content t w ∷ [])) old
+
+set-by : (t : ℕ) (w s : List ℕ) (cs : List Content) → onGiven contents (framed 0 s) ≡ given cs
+    → withSet t w s ≡ pick (ltb mostValue (length w)) (refused 13 0 0) (sized (setLast t w cs))
+unfolding withSet
+set-by t w s cs e =
+    let es = gives contents (framed 0 s) cs e in
+    rw (es .is) (ap (λ (l : List Content). pick (ltb mostValue (length w)) (refused 13 0 0) (sized (setLast t w l))) (es .so))
+
+pub set-twice : (t : ℕ) (v w s bs : List ℕ) → withSet t v s ≡ given bs → withSet t w bs ≡ withSet t w s
+set-twice t v w s bs done =
+    let became = was-set t v s bs done in
+    set-by t w bs _ (became .after)
+    ∙ ap (λ (l : List Content). pick (ltb mostValue (length w)) (refused 13 0 0) (sized l)) (set-over t v w (became .before))
+    ∙ sym (set-by t w s _ (became .read))
