@@ -1,15 +1,15 @@
 -- The laws of `encode`: the header's two forms, its length, the stores that write it, and when an entry is written.
 -- Assumes nothing.
-use mathlib.Core.Path.{_≡_, refl, sym, ap, _∙_}
-use mathlib.Core.List.{List, [], _∷_, _++_}
-use Prim.Native.Nat.{ℕ, suc, _+_, _≤_, _<_, _/_, _%_}
+use mathlib.Core.Path.{_≡_, sym, ap, _∙_}
+use mathlib.Core.List.{List, [], _∷_}
+use Prim.Native.Nat.{ℕ, _+_, _≤_, _<_, _/_, _%_}
 use native.Mathlib.Omega.{arith}
 use native.Mathlib.Numerals.{towards-suc}
 use lib.Dec.{leb}
 use lib.ListN.{length, set, length-append}
 use borrow.Author.Tests.{le-leb, lt-leb, leb-true, leb-false, lt-ltb, le-ltb}
 use Rattle.refusal.specs.Sizes.{mostShort, mostValue}
-use Rattle.refusal.specs.Answer.{Answer, given, refused}
+use Rattle.refusal.specs.Answer.{given, refused}
 use Rattle.refusal.specs.Output.{put, placing, placed}
 use Rattle.laws.proofs.Tests.{by-test}
 use Rattle.laws.proofs.Puts.{put-then, put-length}

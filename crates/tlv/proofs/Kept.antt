@@ -1,12 +1,12 @@
 -- The laws of the entries that a choice keeps, one entry more at a time.
 -- Assumes nothing.
-use mathlib.Core.Path.{_≡_, refl, sym, ap, _∙_}
-use mathlib.Core.Bool.{Bool, true, false}
+use mathlib.Core.Path.{_≡_, refl, ap, _∙_}
+use mathlib.Core.Bool.{true, false}
 use mathlib.Core.List.{List, [], _∷_, _++_}
 use Prim.Native.Nat.{ℕ, suc, _+_, _≤_}
 use lib.ListN.{length, length-append, take, drop}
 use Rattle.laws.proofs.Parts.{length-part}
-use Rattle.tlv.specs.Entries.{Entry, entry, Content, content, contents, Framing, framing}
+use Rattle.tlv.specs.Entries.{entry, Content, content, contents, Framing, framing}
 use Rattle.tlv.specs.Encode.{encode, sizeOf, keepsOf, kept, encodeAll}
 use Rattle.tlv.specs.Loops.{extentOf}
 use Rattle.tlv.specs.declared.Choice.{Choice}

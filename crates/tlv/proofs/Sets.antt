@@ -2,18 +2,17 @@
 -- Assumes nothing.
 use mathlib.Core.Path.{_≡_, refl, sym, ap, _∙_}
 use mathlib.Core.List.{List, [], _∷_, _++_, append-assoc, append-nil}
-use Prim.Native.Nat.{ℕ, suc, _+_, _≤_, _<_}
-use native.Mathlib.Omega.{arith}
+use Prim.Native.Nat.{ℕ, _+_, _≤_, _<_}
 use lib.Dec.{ltb}
 use lib.ListN.{length, length-append}
 use borrow.Author.Tests.{lt-ltb, le-ltb}
 use Rattle.refusal.specs.Sizes.{mostBytes, mostEntries, mostValue}
-use Rattle.refusal.specs.Answer.{pick, Answer, given, refused}
-use Rattle.tlv.specs.Entries.{Content, content, contents, Entry, framing, Framing}
-use Rattle.tlv.specs.Limits.{count, framed}
+use Rattle.refusal.specs.Answer.{pick, given, refused}
+use Rattle.tlv.specs.Entries.{Content, content, contents, framing, Framing}
+use Rattle.tlv.specs.Limits.{count}
 use Rattle.tlv.specs.Encode.{encode, sizeOf, encodeAll, kept, setLast, sized, withSet}
 use Rattle.tlv.specs.declared.Choice.the-variants.{Without}
-use Rattle.tlv.proofs.Walks.{from, from-start}
+use Rattle.tlv.proofs.Walks.{from-start}
 use Rattle.tlv.proofs.Tally.{counted-given, counted-refused}
 use Rattle.tlv.proofs.Encodes.{length-encode}
 

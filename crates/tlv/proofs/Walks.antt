@@ -2,7 +2,6 @@
 -- step, then the framing from the next place; and every entry lies within the input. No proof but these looks at the fuel.
 -- Assumes nothing.
 use mathlib.Core.Path.{_≡_, refl, sym, ap, _∙_, subst}
-use mathlib.Core.Bool.{Bool, true, false}
 use mathlib.Core.List.{List, [], _∷_}
 use mathlib.Core.Logic.{⊎-elim}
 use types.Run.{OneOf}
@@ -14,11 +13,11 @@ use lib.ListN.{length, getD, take, drop, length-drop}
 use lib.Seq.{drop-drop, getD-drop}
 use lib.Dec.{leb, ltb, eqb}
 use borrow.Author.Tests.{le-leb, lt-leb, lt-ltb, le-ltb, ltb-false, leb-true, leb-false}
-use Rattle.refusal.specs.Answer.{pick, Answer, given, refused}
+use Rattle.refusal.specs.Answer.{Answer, given, refused}
 use Rattle.laws.proofs.Tests.{by-test, pick-all}
 use Rattle.refusal.specs.Every.{Every}
 use Rattle.laws.proofs.Parts.{length-part}
-use Rattle.tlv.specs.Entries.{First, none, cut, one, valued, long, first, Entry, entry, Stop, clean, cutAt, Framing, done, onto, step, frames, framing}
+use Rattle.tlv.specs.Entries.{First, none, cut, one, valued, long, first, Entry, entry, clean, cutAt, Framing, done, onto, step, frames, framing}
 use Rattle.tlv.specs.Place.{frameAt, valueAt}
 use Rattle.tlv.specs.Answers.{Head, head, headOf}
 use Rattle.tlv.proofs.Frame

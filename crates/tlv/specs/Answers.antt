@@ -1,11 +1,10 @@
 -- The code's answers, on paper.
 -- Assumes nothing.
-use Prim.Native.Nat.{ℕ, _+_}
-use mathlib.Core.List.{List}
+use Prim.Native.Nat.{ℕ}
 use lib.ListN.{length}
 use Rattle.refusal.specs.Answer.{Answer, given, absent, refused}
 use Rattle.refusal.specs.Number.{refusalAnswer}
-use Rattle.tlv.specs.Entries.{First, none, cut, one, first}
+use Rattle.tlv.specs.Entries.{First, none, cut, one}
 use Rattle.tlv.specs.Last.{Spot, spotAt}
 use Rattle.tlv.specs.declared.Counted.{Counted}
 use Rattle.tlv.specs.declared.Counted.the-variants as c

@@ -1,8 +1,8 @@
 -- The laws of `be`, for every width: one byte more, and the bound.
 -- Assumes nothing.
 use mathlib.Core.Path.{_≡_, refl, sym, ap, _∙_}
-use mathlib.Core.List.{List, [], _∷_}
-use Prim.Native.Nat.{ℕ, suc, _+_, _*_, _^_, _≤_, _<_}
+use mathlib.Core.List.{List, []}
+use Prim.Native.Nat.{ℕ, _+_, _*_, _^_, _≤_, _<_}
 use native.Mathlib.Omega.{arith}
 use native.Mathlib.Nat.{pow-suc, pow-le-pow-right, lt-of-lt-of-le}
 use native.Mathlib.Numerals.{add-one}
@@ -15,7 +15,7 @@ use Rattle.refusal.specs.Answer.{Answer, given, absent, refused, onGiven}
 use Rattle.refusal.specs.Number.{refusalAnswer}
 use Rattle.refusal.specs.declared.Refusal.{Refusal}
 use Rattle.laws.proofs.Tests.{by-test}
-use Rattle.wire.specs.Be.{beFrom, be, wrongLength, ruled}
+use Rattle.wire.specs.Be.{beFrom, wrongLength, ruled}
 
 pub be-end : (x : ℕ) → beFrom x [] ≡ x
 unfolding beFrom

@@ -11,7 +11,7 @@ use borrow.Author.Needs.{needs}
 use Rattle.tlv.specs.Entries.{Content}
 use Rattle.tlv.specs.Encode.{encodeAll}
 use Rattle.tlv.specs.Loops.{extentOf}
-use Rattle.tlv.proofs.Walks.{from, turn-entries, turn-none, turn-inside}
+use Rattle.tlv.proofs.Walks.{turn-entries, turn-none, turn-inside}
 use Rattle.tlv.proofs.Encodes.{size-bound}
 use Rattle.tlv.proofs.Kept.{keptFrom, kept-start, kept-end, encode-none, turn-skip, length-keep, count-keep, extent-is}
 use Rattle.tlv.proofs.kept_extent.Statement.{statement}

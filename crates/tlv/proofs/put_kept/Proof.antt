@@ -12,7 +12,7 @@ use Rattle.laws.proofs.Parts.{length-part}
 use Rattle.laws.proofs.Puts.{put-none, put-then}
 use Rattle.laws.proofs.Emits.{placed-next, placed-left}
 use Rattle.tlv.specs.Encode.{encodeAll}
-use Rattle.tlv.proofs.Walks.{from, turn-entries, turn-none, turn-inside}
+use Rattle.tlv.proofs.Walks.{turn-entries, turn-none, turn-inside}
 use Rattle.tlv.proofs.Encodes.{entry-placed}
 use Rattle.tlv.proofs.Kept.{keptFrom, kept-start, kept-end, encode-none, turn-skip, bytes-keep, size-part, length-keep}
 use Rattle.tlv.proofs.put_kept.Statement.{statement}

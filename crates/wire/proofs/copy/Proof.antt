@@ -1,14 +1,13 @@
 -- `wire::copy` meets its contract. The invariant: what is left of src, stored from here on, makes of dst what all of src makes of it.
 -- Assumes nothing.
 use mathlib.Core.Path.{_≡_, refl, sym, ap, _∙_}
-use mathlib.Core.List.{List, []}
-use Prim.Native.Nat.{ℕ, _+_, _-_, _≤_}
+use Prim.Native.Nat.{_+_, _-_, _≤_}
 use native.Mathlib.Omega.{arith}
-use native.Mathlib.Nat.{add-zero, le-antisymm}
+use native.Mathlib.Nat.{add-zero}
 use lib.ListN.{length, drop, length-set, drop-of-length-le}
 use borrow.Author.Needs.{needs}
 use Rattle.refusal.specs.Output.{put}
-use Rattle.laws.proofs.Puts.{put-none, put-next, put-length}
+use Rattle.laws.proofs.Puts.{put-none, put-next}
 use Rattle.wire.proofs.copy.Statement.{statement}
 use Rattle.wire.proofs.copy.Tie as tie
 

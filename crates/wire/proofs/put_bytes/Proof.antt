@@ -1,8 +1,7 @@
 -- `wire::put_bytes` meets its contract: the two tests say whether the bytes have room.
 -- Assumes nothing.
-use mathlib.Core.Path.{_≡_, refl, sym, ap, _∙_}
+use mathlib.Core.Path.{sym}
 use native.Mathlib.Omega.{arith}
-use Rattle.refusal.specs.Output.{placing}
 use Rattle.laws.proofs.Emits.{placed-fits, placed-not}
 use borrow.Author.Needs.{needs}
 use Rattle.wire.proofs.put_bytes.Statement.{statement}
