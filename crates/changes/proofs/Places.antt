@@ -128,10 +128,10 @@ unfolding opStep
 step-by s at o.End i = refl
 step-by s at o.Bad i = refl
 step-by s at (o.Remove t) i =
-    let k : at + (length (drop at s) - length (drop (at + 3) s)) ≡ at + 3 = rw length-drop (rw length-drop (omega arith)) in
+    let k : at + (length (drop at s) - length (drop (at + 3) s)) ≡ at + 3 = rw (length-drop at s, length-drop (at + 3) s) (omega arith) in
     rw k
 step-by s at (o.Set t a n) i =
-    let k : at + (length (drop at s) - length (drop (a + n) s)) ≡ a + n = rw length-drop (rw length-drop (omega (arith, i))) in
+    let k : at + (length (drop at s) - length (drop (a + n) s)) ≡ a + n = rw (length-drop at s, length-drop (a + n) s) (omega (arith, i)) in
     rw k
 
 -- THE STEP, by what stands at the place

@@ -38,11 +38,12 @@ bytes-are [] h = tt
 bytes-are (x ∷ s) h = (h 0, bytes-are s (λ i. h (suc i)))
 
 -- what two and three writers after one another have stored
-pub put-both : (out mid end : List ℕ) (to : ℕ) (xs ys bs : List ℕ) → mid ≡ put out 0 xs → to ≡ length xs → end ≡ put mid to ys → bs ≡ xs ++ ys → end ≡ put out 0 bs
+pub put-both : (out mid end : List ℕ) (to : ℕ) (xs ys bs : List ℕ) → mid ≡ put out 0 xs → to ≡ length xs → end ≡ put mid to ys → bs ≡ xs ++ ys
+    → end ≡ put out 0 bs
 put-both out mid end to xs ys bs l k r e = r ∙ put-then out mid 0 to xs ys l (k ∙ sym (zero-add (length xs))) ∙ ap (put out 0) (sym e)
 
-pub put-three : (out mid more end : List ℕ) (to next : ℕ) (xs ys zs bs : List ℕ) → mid ≡ put out 0 xs → to ≡ length xs → more ≡ put mid to ys → next ≡ to + length ys
-    → end ≡ put more next zs → bs ≡ xs ++ (ys ++ zs) → end ≡ put out 0 bs
+pub put-three : (out mid more end : List ℕ) (to next : ℕ) (xs ys zs bs : List ℕ) → mid ≡ put out 0 xs → to ≡ length xs
+    → more ≡ put mid to ys → next ≡ to + length ys → end ≡ put more next zs → bs ≡ xs ++ (ys ++ zs) → end ≡ put out 0 bs
 put-three out mid more end to next xs ys zs bs l k m n r e =
     put-both out mid end to xs (ys ++ zs) bs l k (r ∙ put-then mid more to next ys zs m n) e
 
@@ -154,7 +155,8 @@ module _ (a b : List ℕ) where
           ∙ ap sizedOps fold-is
 
 module _ (m a b : List ℕ) where
-  pub fewest-bytes : encodeOps (fewest m a b) ≡ encodeOps (goneBelow 256 m) ++ (encodeSets true (chosen m (opsAfter 0 a)) ++ encodeSets true (chosen m (opsAfter (length a) b)))
+  pub fewest-bytes : encodeOps (fewest m a b)
+      ≡ encodeOps (goneBelow 256 m) ++ (encodeSets true (chosen m (opsAfter 0 a)) ++ encodeSets true (chosen m (opsAfter (length a) b)))
   unfolding foldedSets
   fewest-bytes =
       ops-append (goneBelow 256 m) (map set (foldedSets m a b))

@@ -83,7 +83,7 @@ pub fn operation_at(list: &[u8], at: usize) -> OpFrame
     OpFrame::Bad
 }
 
-// The place of the 129th operation: at, where n are passed, and else over.
+// The place of the 129th operation: at, where 128 are passed, and else over, as it was.
 fn over_at(n: usize, at: usize, over: usize) -> usize
     ensures { λ r. ⌜ r ≡ pick (eqb n mostEntries) at over ⌝ }
 {
@@ -202,7 +202,7 @@ fn spared_extent(s: &[u8], marks: [usize; 256]) -> Extent
     }
 }
 
-// How many bytes the entries of the sets take that are marked, and how many they are.
+// How many bytes the entries of the sets take whose own marks stand at their types, and how many they are.
 fn chosen_extent(list: &[u8], marks: [usize; 256], base: usize) -> Extent
     requires { ⌜ (length (now list) ≤ mostBytes) × (base ≤ mostBytes) ⌝ }
     ensures { λ r. ⌜ (r ≡ extentOf (chosen marks (opsAfter base (now (list .entry))))) × (r .bytes ≤ mostBytes) × (r .entries ≤ mostBytes) ⌝ }
@@ -269,7 +269,7 @@ fn put_spared(s: &[u8], marks: [usize; 256], out: &mut [u8]) -> usize
     }
 }
 
-// The entries of the sets that are marked, from a place of out on; the place after them.
+// The entries of the sets whose own marks stand at their types, from a place of out on; the place after them.
 fn put_chosen(
     list: &[u8],
     marks: [usize; 256],
@@ -302,7 +302,7 @@ fn put_chosen(
     }
 }
 
-// How many types are removed last.
+// How many types have a removal for their last operation.
 fn count_removals(marks: [usize; 256]) -> usize
     ensures { λ r. ⌜ (r ≡ length (goneBelow 256 marks)) × (r ≤ 256) ⌝ }
 {
@@ -318,7 +318,7 @@ fn count_removals(marks: [usize; 256]) -> usize
     n
 }
 
-// A removal of each type that is removed last, types ascending, at the start of out; the place after them.
+// A removal of each of these types, ascending, at the start of out; the place after them.
 fn put_removals(marks: [usize; 256], out: &mut [u8]) -> usize
     requires { ⌜ 3 * length (goneBelow 256 marks) ≤ length (now out) ⌝ }
     ensures { λ r. ⌜ (r ≡ length (encodeOps (goneBelow 256 marks))) × (now (out .exit) ≡ put (now (out .entry)) 0 (encodeOps (goneBelow 256 marks))) ⌝ }
