@@ -136,7 +136,8 @@ impl Timestamp {
     pub fn raw(self) -> u64
         ensures { λ r. ⌜ r ≡ self .0 ⌝ }
     {
-        self.0
+        let raw = self.0;
+        raw
     }
 
     pub fn seconds(self) -> u64
@@ -185,7 +186,8 @@ impl SecurityPolicyFlags {
     pub fn bits(self) -> u16
         ensures { λ r. ⌜ r ≡ self .0 ⌝ }
     {
-        self.0
+        let all = self.0;
+        all
     }
 
     // Whether all bits of the mask are set.
