@@ -4,10 +4,9 @@ use mathlib.Core.Path.{_≡_, refl, ap, _∙_}
 use mathlib.Core.Bool.{Bool, true, false, _&&_, _||_, and-true, and-false, or-false, and-assoc, or-assoc, and-or-distrib-right}
 use mathlib.Core.List.{List, [], _∷_}
 use Prim.Native.Nat.{ℕ, _<_}
-use lib.Dec.{T, leb, eqb, eqb→eq}
+use lib.Dec.{T, eqb, eqb→eq}
 use Rattle.refusal.specs.Answer.{pick}
 use Rattle.utf8.specs.Utf8.{between, tail, one, two, three, four, octets, classOf}
-use Rattle.utf8.specs.Chars.{lowestSecond, highestSecond}
 use Rattle.utf8.proofs.Below.{below}
 
 -- a byte from low to high, and then what f asks of the rest
@@ -19,10 +18,13 @@ next low high f (b ∷ r) = between low high b && f r
 unfoldable pub after : ℕ → List ℕ → Bool
 after k r =
     pick (eqb k 1) (octets r)
-    (pick (eqb k 0) false
-    (next (lowestSecond k) (highestSecond k)
-    (λ (q : List ℕ). pick (eqb k 2) (octets q) (next 128 191 (λ (p : List ℕ). pick (leb k 5) (octets p) (next 128 191 octets p)) q))
-    r))
+    (pick (eqb k 2) (next 128 191 octets r)
+    (pick (eqb k 3) (next 160 191 (next 128 191 octets) r)
+    (pick (eqb k 4) (next 128 191 (next 128 191 octets) r)
+    (pick (eqb k 5) (next 128 159 (next 128 191 octets) r)
+    (pick (eqb k 6) (next 144 191 (next 128 191 (next 128 191 octets)) r)
+    (pick (eqb k 7) (next 128 191 (next 128 191 (next 128 191 octets)) r)
+    (pick (eqb k 8) (next 128 143 (next 128 191 (next 128 191 octets)) r) false)))))))
 
 -- ---- the alternatives of the grammar that a byte begins
 
@@ -63,11 +65,11 @@ unfolding octets
 clause a b c d r = refl
 
 long : (a b c d : ℕ) (r : List ℕ) → octets (a ∷ b ∷ c ∷ d ∷ r) ≡ any (begun a) (b ∷ c ∷ d ∷ r)
-unfolding begun after lowestSecond highestSecond next tail two three four
+unfolding begun after next tail two three four
 long a b c d r = clause a b c d r ∙ simp (any-keep, any-none, and-assoc, or-assoc, and-or-distrib-right, or-false)
 
 by-begun : (a : ℕ) (r : List ℕ) → octets (a ∷ r) ≡ any (begun a) r
-unfolding octets begun after lowestSecond highestSecond next tail two three four
+unfolding octets begun after next tail two three four
 by-begun a [] = simp (any-keep, any-none, and-true, and-false, or-false)
 by-begun a (b ∷ []) = simp (any-keep, any-none, and-assoc, and-true, and-false, or-false)
 by-begun a (b ∷ c ∷ []) = simp (any-keep, any-none, and-assoc, and-true, and-false, or-false)

@@ -3,19 +3,19 @@ mod classes;
 
 use classes::CLASSES;
 ghost use mathlib.Core.Path.{_≡_};
-ghost use lib.ListN.{drop};
+ghost use Prim.Native.Nat.{_<_};
+ghost use lib.ListN.{length};
 ghost use Rattle.utf8.specs.Utf8.{octets, classOf};
-ghost use Rattle.utf8.specs.Chars.{lowestSecond, highestSecond, withinAt, FirstAt, CharAt};
+ghost use Rattle.utf8.specs.Chars.{allOne, withinAt, twoAt, threeAt, fourAt, FirstAt, CharAt};
 
 // Whether s is UTF-8.
 pub fn is_utf8(s: &[u8]) -> bool
     ensures { λ r. ⌜ r ≡ octets (now (s .entry)) ⌝ }
 {
-    let at = ascii_len(s);
-    if s.len() <= at {
+    if is_ascii(s) {
         return true;
     }
-    rest_is_utf8(s, at)
+    has_chars(s)
 }
 
 // The class of b as the first byte of a character.
@@ -25,26 +25,25 @@ pub fn class(b: u8) -> u8
     CLASSES[b as usize]
 }
 
-// How many bytes at the start of s are ASCII. Most names are ASCII to the end, and want no table.
-fn ascii_len(s: &[u8]) -> usize
-    ensures { λ r. ⌜ octets (drop r (now (s .entry))) ≡ octets (now (s .entry)) ⌝ }
+// Whether every byte is ASCII, as in most names, which want no table. `&` in place of an early return lets the compiler take many bytes at once.
+fn is_ascii(s: &[u8]) -> bool
+    ensures { λ r. ⌜ r ≡ allOne (now (s .entry)) ⌝ }
 {
-    let mut at = 0;
-    while at < s.len() {
-        if 0x80 <= s[at] {
-            return at;
-        }
-        at += 1;
+    let mut good = true;
+    let mut i = 0;
+    while i < s.len() {
+        good = good & (s[i] <= 0x7F);
+        i += 1;
     }
-    at
+    good
 }
 
-// Whether s is UTF-8 from the place on. The table is made once, and looked up once for each character.
-fn rest_is_utf8(s: &[u8], from: usize) -> bool
-    ensures { λ r. ⌜ r ≡ octets (drop from (now (s .entry))) ⌝ }
+// Whether s is UTF-8, character by character. The table is made once, and looked up once for each character.
+fn has_chars(s: &[u8]) -> bool
+    ensures { λ r. ⌜ r ≡ octets (now (s .entry)) ⌝ }
 {
     let table = CLASSES;
-    let mut at = from;
+    let mut at = 0;
     while at < s.len() {
         let n = char_len_at(s, at, table[s[at] as usize]);
         if n == 0 {
@@ -60,57 +59,56 @@ fn char_len_at(s: &[u8], at: usize, c: u8) -> usize
     requires { ⌜ FirstAt (now s) at c ⌝ }
     ensures { λ r. ⌜ CharAt (now (s .entry)) at r ⌝ }
 {
-    if c == 1 {
-        return 1;
+    match c {
+        1 => 1,
+        2 => two_at(s, at),
+        3 => three_at(s, at, 0xA0, 0xBF),
+        4 => three_at(s, at, 0x80, 0xBF),
+        5 => three_at(s, at, 0x80, 0x9F),
+        6 => four_at(s, at, 0x90, 0xBF),
+        7 => four_at(s, at, 0x80, 0xBF),
+        8 => four_at(s, at, 0x80, 0x8F),
+        _ => 0,
     }
-    if c == 0 {
-        return 0;
-    }
-    if !second_at(s, at + 1, c) {
-        return 0;
-    }
-    if c == 2 {
+}
+
+// 2 where one more byte of a character follows the place, else 0.
+fn two_at(s: &[u8], at: usize) -> usize
+    requires { ⌜ at < length (now s) ⌝ }
+    ensures { λ r. ⌜ r ≡ twoAt (now (s .entry)) at ⌝ }
+{
+    if within_at(s, at + 1, 0x80, 0xBF) {
         return 2;
     }
-    if !within_at(s, at + 2, 0x80, 0xBF) {
-        return 0;
-    }
-    if c <= 5 {
-        return 3;
-    }
-    if !within_at(s, at + 3, 0x80, 0xBF) {
-        return 0;
-    }
-    4
+    0
 }
 
-// Whether a byte that may come second, after a first byte of class c, stands at the place.
-fn second_at(s: &[u8], at: usize, c: u8) -> bool
-    ensures { λ r. ⌜ r ≡ withinAt (lowestSecond c) (highestSecond c) (now (s .entry)) at ⌝ }
+// 3 where two more bytes follow it, the second of the character from low to high, else 0.
+fn three_at(s: &[u8], at: usize, low: u8, high: u8) -> usize
+    requires { ⌜ at < length (now s) ⌝ }
+    ensures { λ r. ⌜ r ≡ threeAt low high (now (s .entry)) at ⌝ }
 {
-    within_at(s, at, lowest_second(c), highest_second(c))
+    if within_at(s, at + 1, low, high) {
+        if within_at(s, at + 2, 0x80, 0xBF) {
+            return 3;
+        }
+    }
+    0
 }
 
-// The lowest second byte after a first byte of class c.
-fn lowest_second(c: u8) -> u8
-    ensures { λ r. ⌜ r ≡ lowestSecond c ⌝ }
+// 4 where three more bytes follow it, likewise, else 0.
+fn four_at(s: &[u8], at: usize, low: u8, high: u8) -> usize
+    requires { ⌜ at < length (now s) ⌝ }
+    ensures { λ r. ⌜ r ≡ fourAt low high (now (s .entry)) at ⌝ }
 {
-    match c {
-        3 => 0xA0,
-        6 => 0x90,
-        _ => 0x80,
+    if within_at(s, at + 1, low, high) {
+        if within_at(s, at + 2, 0x80, 0xBF) {
+            if within_at(s, at + 3, 0x80, 0xBF) {
+                return 4;
+            }
+        }
     }
-}
-
-// The highest second byte after a first byte of class c.
-fn highest_second(c: u8) -> u8
-    ensures { λ r. ⌜ r ≡ highestSecond c ⌝ }
-{
-    match c {
-        5 => 0x9F,
-        8 => 0x8F,
-        _ => 0xBF,
-    }
+    0
 }
 
 // Whether a byte from low to high stands at the place.

@@ -1,4 +1,4 @@
--- `utf8::rest_is_utf8` meets its contract. The invariant: from here on s is UTF-8 exactly where it is from the given place on.
+-- `utf8::has_chars` meets its contract. The invariant: from here on s is UTF-8 exactly where all of it is.
 -- Assumes nothing.
 use mathlib.Core.Path.{_≡_, refl, sym, _∙_}
 use Prim.Native.Nat.{_-_}
@@ -9,14 +9,14 @@ use borrow.Author.Needs.{needs}
 use Rattle.utf8.specs.Utf8.{octets}
 use Rattle.utf8.proofs.Rule.{rule}
 use Rattle.utf8.proofs.Places.{at-end}
-use Rattle.utf8.proofs.rest_is_utf8.Statement.{statement}
-use Rattle.utf8.proofs.rest_is_utf8.Tie as tie
+use Rattle.utf8.proofs.has_chars.Statement.{statement}
+use Rattle.utf8.proofs.has_chars.Tie as tie
 
 abbrev Inv-loop : tie.InvT-loop
-Inv-loop s from table at₀ at = octets (drop at s) ≡ octets (drop from s)
+Inv-loop s table at₀ at = octets (drop at s) ≡ octets s
 
 abbrev μ-loop : tie.MeasureT-loop
-μ-loop s from table at₀ at = length s - at
+μ-loop s table at₀ at = length s - at
 
 loop-holds : tie.Need-loop-holds Inv-loop μ-loop
 loop-holds c = refl
@@ -52,8 +52,8 @@ loop-again c =
 returns-2 : tie.Need-returns-2 Inv-loop μ-loop
 returns-2 c = at-end _ _ (c .loop-test .left) ∙ c .before .loop .inv
 
-pub rest-is-utf8-spec : {M : Type 1} → statement M
-rest-is-utf8-spec =
+pub has-chars-spec : {M : Type 1} → statement M
+has-chars-spec =
     tie.close
     (tie.spec
     Inv-loop
