@@ -6,6 +6,7 @@ pub mod Reading
 pub mod Limits
 pub mod Effects
 pub mod Demand
+pub mod Calls
 pub mod Bench
 pub mod Papers
 pub mod Places

@@ -93,12 +93,12 @@ framed-bounded s d =
 abbrev Short : List ℕ → Type 0
 Short text = length text ≤ reportBytes
 
--- a line has at most 3 digits, a space, 4 digits and a newline
-lines-short : (es : List Entry) → Every (Fits mostBytes) es → length (entryLines es) ≤ 9 * length es
+-- a line has at most 3 digits, a space, 5 digits and a newline
+lines-short : (es : List Entry) → Every (Fits mostBytes) es → length (entryLines es) ≤ 10 * length es
 unfolding entryLines
 lines-short [] f = omega arith
 lines-short (e ∷ es) f =
-    let line = line-below 2 3 (e .ty) (length (e .value)) (omega arith) (omega arith) in
+    let line = line-below 2 4 (e .ty) (length (e .value)) (omega arith) (omega arith) in
     omega (arith, length-append (pairLine (e .ty) (length (e .value))) (entryLines es), lines-short es (f .1))
 
 listing-short : (es : List Entry) → Listable es → Short (listing es)

@@ -1,11 +1,11 @@
 -- The flat listing of a dataset or payload, and what the listing program prints. Document 01: "prints `entries` and their count, then a line
 -- for each with type and length, in decimal, one space between; a refusal is one line `refused`, number, place".
 -- Assumes nothing.
-use Prim.Native.Nat.{ℕ, _+_, _-_}
+use Prim.Native.Nat.{ℕ, _+_, _-_, _*_}
 use mathlib.Core.List.{List, [], _∷_, _++_}
 use lib.ListN.{length, take, getD}
 use lib.Dec.{eqb}
-use Rattle.refusal.specs.Sizes.{mostDigits}
+use Rattle.refusal.specs.Sizes.{mostEntries, mostDigits}
 use Rattle.refusal.specs.Answer.{pick, Answer, given, absent, refused, thenDo, onGiven}
 use Rattle.tlv.specs.Entries.{Entry}
 use Rattle.tlv.specs.Limits.{framed}
@@ -54,4 +54,4 @@ reportReads = mostDigits + 2
 
 -- what it prints is never longer (`report-short`, proofs/Bounds.antt)
 abbrev pub reportBytes : ℕ
-reportBytes = 2048
+reportBytes = 16 * mostEntries

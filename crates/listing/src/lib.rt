@@ -16,7 +16,7 @@ ghost use Rattle.listing.specs.Listing.{pairLine, entryLines, listing, l
 // The program `list` reads no more than this: with one byte more than the digits and their newline, a text that is too long is told apart.
 pub const REPORT_READS: usize = refusal::MAX_DIGITS + 2;
 // And what it prints is never longer than this.
-pub const REPORT_BYTES: usize = 2048;
+pub const REPORT_BYTES: usize = 16 * refusal::MAX_ENTRIES;
 
 // How many digits n has.
 fn decimal_len(n: usize) -> usize

@@ -1,8 +1,9 @@
 // Calls that edit a dataset, take it from hex text or to it, or write a mask item: `set`, `remove`, `hexdata`, `tohex`, `maskitem`.
 use crate::answers::Answer;
+use crate::lists::list_calls;
 use crate::requests::Values;
 use crate::requests::asks;
-use crate::rooms::Room;
+use texts::Room;
 
 pub(crate) fn edit_calls(request: &Room, v: Values, lent: &mut [u8]) -> Answer {
     if asks(request, b"set tbbn") {
@@ -25,5 +26,5 @@ pub(crate) fn edit_calls(request: &Room, v: Values, lent: &mut [u8]) -> Answer {
     if asks(request, b"maskitem tbn") {
         return Answer::Wrote(values::write_mask_item(v.type_byte(1), v.bytes(request, 2), lent));
     }
-    Answer::Unknown
+    list_calls(request, v, lent)
 }

@@ -1,14 +1,17 @@
 // Calls on entries: `frame`, `one`, `rewrite`, `entry`, `raw`.
 use crate::answers::Answer;
+use crate::hexes::hex_calls;
+use crate::queries::query_texts;
 use crate::requests::Values;
 use crate::requests::asks;
-use crate::rooms::Room;
-use crate::text::put_hex;
-use crate::text::put_marked;
-use crate::text::put_number;
-use crate::text::put_numbers;
-use crate::text::put_refusal;
-use crate::text::put_text;
+use texts::Room;
+use texts::put_hex;
+use texts::put_marked;
+use texts::put_number;
+use texts::put_numbers;
+use texts::put_refusal;
+use texts::put_text;
+use texts::put_three;
 use tlv::Counted;
 use tlv::Found;
 use tlv::Frame;
@@ -69,32 +72,39 @@ fn put_raw(text: &mut Room, at: usize, ty: u8, s: &[u8]) -> usize {
     }
 }
 
-fn one(s: &[u8]) -> Answer {
+fn put_first(text: &mut Room, at: usize, s: &[u8]) -> usize {
     match tlv::parse_one(s) {
-        Parsed::Entry { ty, header, len } => Answer::Three(ty as usize, header, len),
-        Parsed::Refused(r) => Answer::Refused(r),
+        Parsed::Entry { ty, header, len } => put_three(
+            text,
+            at,
+            ty as u64,
+            header as u64,
+            len as u64,
+        ),
+        Parsed::Refused(r) => put_refusal(text, at, r),
     }
 }
 
 pub(crate) fn framing_texts(request: &Room, v: Values, text: &mut Room, at: usize) -> usize {
+    let s = v.bytes(request, 1);
     if asks(request, b"frame b") {
-        return put_frame(text, at, v.bytes(request, 1));
+        return put_frame(text, at, s);
+    }
+    if asks(request, b"one b") {
+        return put_first(text, at, s);
     }
     if asks(request, b"raw tb") {
         return put_raw(text, at, v.type_byte(1), v.bytes(request, 2));
     }
-    at
+    query_texts(request, v, text, at)
 }
 
 pub(crate) fn framing_calls(request: &Room, v: Values, lent: &mut [u8]) -> Answer {
-    if asks(request, b"one b") {
-        return one(v.bytes(request, 1));
-    }
     if asks(request, b"rewrite bn") {
         return Answer::Wrote(tlv::rewrite(v.bytes(request, 1), lent));
     }
     if asks(request, b"entry tbn") {
         return Answer::Wrote(tlv::write_entry(v.type_byte(1), v.bytes(request, 2), lent));
     }
-    Answer::Unknown
+    hex_calls(request, v, lent)
 }

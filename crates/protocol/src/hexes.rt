@@ -1,14 +1,15 @@
 // Calls on hex text: `hexbytes`, `hexframe`.
 use crate::answers::Answer;
+use crate::edits::edit_calls;
 use crate::framing::put_frame;
 use crate::lent::lend;
 use crate::lent::put_dirty;
 use crate::lent::put_written;
 use crate::requests::Values;
 use crate::requests::asks;
-use crate::rooms::Room;
-use crate::words::part_of;
 use refusal::Written;
+use texts::Room;
+use texts::part_of;
 
 // What was decoded into the bytes that were lent, as `frame` answers for it.
 fn put_decoded(text: &mut Room, at: usize, written: Written, lent: &[u8]) -> usize {
@@ -31,5 +32,5 @@ pub(crate) fn hex_calls(request: &Room, v: Values, lent: &mut [u8]) -> Answer {
     if asks(request, b"hexbytes bn") {
         return Answer::Wrote(base16::decode(v.bytes(request, 1), lent));
     }
-    Answer::Unknown
+    edit_calls(request, v, lent)
 }

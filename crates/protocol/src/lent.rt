@@ -1,11 +1,11 @@
 // Lent outputs: filled with a pattern before a call, and looked at after it.
-use crate::rooms::Room;
-use crate::text::put_hex;
-use crate::text::put_refusal;
-use crate::text::put_text;
 use crate::words::least;
-use crate::words::part_of;
 use refusal::Written;
+use texts::Room;
+use texts::part_of;
+use texts::put_hex;
+use texts::put_refusal;
+use texts::put_text;
 ghost use Prim.Native.Nat.{_≤_};
 
 const PATTERN: u8 = 0xA5;

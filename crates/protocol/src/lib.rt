@@ -1,18 +1,20 @@
 // The line protocol of the program `probe`: requests on standard input, one answer line each.
 mod answers;
 mod calls;
+mod delays;
+mod diagnostics;
 mod edits;
 mod framing;
 mod hexes;
 mod lent;
 mod lines;
 mod listings;
+mod lists;
 mod masks;
 mod parts;
 mod queries;
 mod requests;
 mod rooms;
-mod text;
 mod typed;
 mod words;
 

@@ -2,11 +2,11 @@
 use crate::calls::LONGEST_LINE;
 use crate::calls::put_call;
 use crate::rooms::Lent;
-use crate::rooms::Room;
-use crate::text::put_byte;
-use crate::text::put_text;
 use crate::words::least;
 use crate::words::until;
+use texts::Room;
+use texts::put_byte;
+use texts::put_text;
 ghost use Prim.Native.Nat.{_≤_};
 
 // The answer line.

@@ -4,7 +4,7 @@ use crate::lent::lend;
 use crate::lent::put_written;
 use crate::requests::Values;
 use crate::requests::asks;
-use crate::rooms::Room;
+use texts::Room;
 
 // More than a report can have.
 const REPORT: u64 = 8192;

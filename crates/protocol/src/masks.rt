@@ -1,12 +1,12 @@
 // The text of a channel mask: how many items, then page and bytes of each.
-use crate::rooms::Room;
-use crate::text::put_absent;
-use crate::text::put_byte;
-use crate::text::put_hex;
-use crate::text::put_marked;
-use crate::text::put_one;
-use crate::text::put_refusal;
-use crate::words::part_of;
+use texts::Room;
+use texts::part_of;
+use texts::put_absent;
+use texts::put_byte;
+use texts::put_hex;
+use texts::put_marked;
+use texts::put_one;
+use texts::put_refusal;
 use values::MaskItem;
 use values::ReadMask;
 

@@ -1,11 +1,13 @@
 // What typed values are made of: `ts.build`, `ts.parts`, `flags.get`, `flags.set`, `flags.has`, `channel.bytes`, `policy.bytes`.
+use crate::delays::delay_texts;
 use crate::requests::Values;
 use crate::requests::asks;
-use crate::rooms::Room;
-use crate::text::put_bytes_value;
-use crate::text::put_one;
-use crate::text::put_text;
 use crate::typed::put_timestamp;
+use texts::Room;
+use texts::put_bytes_value;
+use texts::put_number;
+use texts::put_one;
+use texts::put_text;
 use values::Channel;
 use values::SecurityPolicy;
 use values::SecurityPolicyFlags;
@@ -26,18 +28,28 @@ fn version_of(number: u64) -> ThreadProtocolVersion {
     }
 }
 
-fn put_version(text: &mut Room, at: usize, version: ThreadProtocolVersion) -> usize {
+fn number_of(version: ThreadProtocolVersion) -> u64 {
     match version {
-        ThreadProtocolVersion::V1Or2 => put_text(text, at, b"ok V1Or2"),
-        ThreadProtocolVersion::V3 => put_text(text, at, b"ok V3"),
-        ThreadProtocolVersion::V4 => put_text(text, at, b"ok V4"),
-        ThreadProtocolVersion::V5 => put_text(text, at, b"ok V5"),
-        ThreadProtocolVersion::V6 => put_text(text, at, b"ok V6"),
-        ThreadProtocolVersion::V7 => put_text(text, at, b"ok V7"),
-        ThreadProtocolVersion::V8 => put_text(text, at, b"ok V8"),
-        ThreadProtocolVersion::V9 => put_text(text, at, b"ok V9"),
-        ThreadProtocolVersion::V10 => put_text(text, at, b"ok V10"),
+        ThreadProtocolVersion::V1Or2 => 1,
+        ThreadProtocolVersion::V3 => 3,
+        ThreadProtocolVersion::V4 => 4,
+        ThreadProtocolVersion::V5 => 5,
+        ThreadProtocolVersion::V6 => 6,
+        ThreadProtocolVersion::V7 => 7,
+        ThreadProtocolVersion::V8 => 8,
+        ThreadProtocolVersion::V9 => 9,
+        ThreadProtocolVersion::V10 => 10,
     }
+}
+
+fn put_version(text: &mut Room, at: usize, version: ThreadProtocolVersion) -> usize {
+    let word = put_text(text, at, b"ok V");
+    let number = number_of(version);
+    let end = put_number(text, word, number);
+    if number == 1 {
+        return put_text(text, end, b"Or2");
+    }
+    end
 }
 
 fn put_built(text: &mut Room, at: usize, seconds: u64, ticks: u16, bit: u64) -> usize {
@@ -78,7 +90,7 @@ fn flags_texts(request: &Room, v: Values, text: &mut Room, at: usize) -> usize {
     if asks(request, b"flags.has ss") {
         return put_has(text, at, flags, v.short(2));
     }
-    at
+    delay_texts(request, v, text, at)
 }
 
 pub(crate) fn part_texts(request: &Room, v: Values, text: &mut Room, at: usize) -> usize {

@@ -1,8 +1,8 @@
 // Typed queries of a dataset, `q.KIND`, and the same of a bare value, `v.KIND`.
 use crate::masks::put_mask;
+use crate::parts::part_texts;
 use crate::requests::Values;
 use crate::requests::asks;
-use crate::rooms::Room;
 use crate::typed::put_array_8;
 use crate::typed::put_array_16;
 use crate::typed::put_channel;
@@ -12,11 +12,17 @@ use crate::typed::put_policy;
 use crate::typed::put_timestamp;
 use crate::typed::put_u16;
 use crate::typed::put_u32;
+use dataset::channel_mask;
+use dataset::channel_mask_value;
+use dataset::network_name;
+use dataset::network_name_value;
+use texts::Room;
 use values::Channel;
 use values::SecurityPolicy;
 use values::Timestamp;
 
-fn number_queries(request: &Room, s: &[u8], text: &mut Room, at: usize) -> usize {
+pub(crate) fn query_texts(request: &Room, v: Values, text: &mut Room, at: usize) -> usize {
+    let s = v.bytes(request, 1);
     if asks(request, b"q.channel b") {
         return put_channel(text, at, dataset::channel(s));
     }
@@ -35,10 +41,11 @@ fn number_queries(request: &Room, s: &[u8], text: &mut Room, at: usize) -> usize
     if asks(request, b"q.policy b") {
         return put_policy(text, at, dataset::security_policy(s));
     }
-    at
+    byte_queries(request, v, text, at)
 }
 
-fn byte_queries(request: &Room, s: &[u8], text: &mut Room, at: usize) -> usize {
+fn byte_queries(request: &Room, v: Values, text: &mut Room, at: usize) -> usize {
+    let s = v.bytes(request, 1);
     if asks(request, b"q.extpanid b") {
         return put_array_8(text, at, dataset::extended_pan_id(s));
     }
@@ -49,37 +56,19 @@ fn byte_queries(request: &Room, s: &[u8], text: &mut Room, at: usize) -> usize {
         return put_array_16(text, at, dataset::network_key(s));
     }
     if asks(request, b"q.name b") {
-        return put_found(
-            text,
-            at,
-            dataset::network_name(s),
-            dataset::network_name_value(s),
-        );
+        return put_found(text, at, network_name(s), network_name_value(s));
     }
     if asks(request, b"q.pskc b") {
         return put_found(text, at, dataset::pskc(s), dataset::pskc_value(s));
     }
     if asks(request, b"q.mask b") {
-        return put_mask(
-            text,
-            at,
-            dataset::channel_mask(s),
-            dataset::channel_mask_value(s),
-        );
+        return put_mask(text, at, channel_mask(s), channel_mask_value(s));
     }
-    at
+    number_values(request, v, text, at)
 }
 
-pub(crate) fn query_texts(request: &Room, v: Values, text: &mut Room, at: usize) -> usize {
+fn number_values(request: &Room, v: Values, text: &mut Room, at: usize) -> usize {
     let s = v.bytes(request, 1);
-    let end = number_queries(request, s, text, at);
-    if end != at {
-        return end;
-    }
-    byte_queries(request, s, text, at)
-}
-
-fn number_values(request: &Room, s: &[u8], text: &mut Room, at: usize) -> usize {
     if asks(request, b"v.channel b") {
         return put_channel(text, at, Channel::parse(s, 0));
     }
@@ -98,10 +87,11 @@ fn number_values(request: &Room, s: &[u8], text: &mut Room, at: usize) -> usize 
     if asks(request, b"v.policy b") {
         return put_policy(text, at, SecurityPolicy::parse(s, 0));
     }
-    at
+    byte_values(request, v, text, at)
 }
 
-fn byte_values(request: &Room, s: &[u8], text: &mut Room, at: usize) -> usize {
+fn byte_values(request: &Room, v: Values, text: &mut Room, at: usize) -> usize {
+    let s = v.bytes(request, 1);
     if asks(request, b"v.extpanid b") {
         return put_array_8(text, at, dataset::read_array_8(s, 0));
     }
@@ -120,14 +110,5 @@ fn byte_values(request: &Room, s: &[u8], text: &mut Room, at: usize) -> usize {
     if asks(request, b"v.mask b") {
         return put_mask(text, at, values::count_mask_items(s, 0), s);
     }
-    at
-}
-
-pub(crate) fn value_texts(request: &Room, v: Values, text: &mut Room, at: usize) -> usize {
-    let s = v.bytes(request, 1);
-    let end = number_values(request, s, text, at);
-    if end != at {
-        return end;
-    }
-    byte_values(request, s, text, at)
+    part_texts(request, v, text, at)
 }

@@ -1,10 +1,6 @@
-// The buffers: made once, and lent to every request. They are passed as arrays, which need no proof that they keep their length.
-
-// Room for the input, more than the longest line; for the bytes of a request's words; and for the answers that are not written yet, of which
-// the longest, all that can be lent in hex, takes less than half.
-pub(crate) const ROOM: usize = 1048576;
-
-pub(crate) type Room = [u8; ROOM];
+// The buffers: made once, and lent to every request. A room takes the input, the bytes of a request's words, or the answers not yet written.
+use texts::ROOM;
+use texts::Room;
 
 // What a call can be lent.
 const LENT: usize = 131072;

@@ -1,14 +1,14 @@
 // The text of each kind of typed answer.
-use crate::rooms::Room;
-use crate::text::put_absent;
-use crate::text::put_bytes_value;
-use crate::text::put_one;
-use crate::text::put_refusal;
-use crate::text::put_three;
-use crate::text::put_two;
 use dataset::Array8;
 use dataset::Array16;
 use dataset::Checked;
+use texts::Room;
+use texts::put_absent;
+use texts::put_bytes_value;
+use texts::put_one;
+use texts::put_refusal;
+use texts::put_three;
+use texts::put_two;
 use tlv::Found;
 use values::ReadChannel;
 use values::ReadPolicy;

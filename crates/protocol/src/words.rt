@@ -7,16 +7,6 @@ pub(crate) fn least(a: usize, b: usize) -> usize
     if a < b { a } else { b }
 }
 
-// The part of s from start up to end, or no bytes where s has no such part.
-pub(crate) fn part_of<'a>(s: &'a [u8], start: usize, end: usize) -> &'a [u8] {
-    if start <= end {
-        if end <= s.len() {
-            return &s[start..end];
-        }
-    }
-    &s[..0]
-}
-
 // The place of the first `stop` from a place on, or the end.
 pub(crate) fn until(s: &[u8], from: usize, stop: u8) -> usize
     requires { do ⌜ from ≤ (← ⟦s.len()⟧) ⌝ }

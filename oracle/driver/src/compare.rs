@@ -3,7 +3,8 @@
 use std::fs::File;
 use std::io::{self, BufReader};
 
-use crate::figures::{Figures, Verdict};
+use crate::calls;
+use crate::figures::{Figures, NO_CALL, Verdict};
 use crate::lines::Lines;
 
 /// So many differences are shown; all are counted.
@@ -31,7 +32,7 @@ pub fn compare(requests: &str, ours: &str, theirs: &str) -> io::Result<Figures> 
             println!("  ours:    {}", shown(our_line));
             println!("  theirs:  {}", shown(their_line));
         }
-        figures.count(verdict);
+        figures.count(call_of(request), verdict);
     }
     Ok(figures)
 }
@@ -46,6 +47,12 @@ fn verdict(request: Option<&[u8]>, ours: Option<&[u8]>, theirs: Option<&[u8]>) -
         (Some(_), Some(ours), Some(theirs)) if ours == theirs => kind_of(theirs),
         _ => Verdict::Different,
     }
+}
+
+fn call_of(request: Option<&[u8]>) -> &'static str {
+    let name = request.unwrap_or_default().split(|&c| c == b' ').next();
+    let call = calls::ALL.iter().find(|call| Some(call.name.as_bytes()) == name);
+    call.map_or(NO_CALL, |call| call.name)
 }
 
 /// What kind of answer a line is. One that is of no kind, or shows touched memory, is right on neither side.

@@ -38,7 +38,7 @@ pub fn read_dataset(bytes: &[u8]) -> Result<ReadDataset, Refusal> {
     let placed = entries_in_place(bytes);
     assert_eq!(read.is_ok(), placed.is_ok(), "the Rust frames a whole exactly when it frames each entry");
     let entries = placed?;
-    sizes::test_entry_count(&entries)?;
+    sizes::test_count(entries.iter().map(|entry| entry.start))?;
     let dataset = read.expect("just seen to be framed");
     Ok(ReadDataset { dataset, entries })
 }
@@ -53,8 +53,9 @@ pub fn read_hex_dataset(text: &[u8]) -> Result<ReadDataset, Refusal> {
     }
 }
 
-/// Steps through the input with `parse_one`: an entry, or the refusal of one, stands where the bytes still to be read begin.
-fn entries_in_place(bytes: &[u8]) -> Result<Vec<PlacedEntry>, Refusal> {
+/// Refusal 2, or the entries. Steps through the input with `parse_one`: an entry, or the refusal of one, stands where the
+/// bytes still to be read begin.
+pub fn entries_in_place(bytes: &[u8]) -> Result<Vec<PlacedEntry>, Refusal> {
     let mut entries = Vec::new();
     let mut rest = bytes;
     while !rest.is_empty() {

@@ -5,11 +5,14 @@
 mod answer;
 mod calls;
 mod compare;
+mod decoded;
 mod figures;
 mod framed;
 mod lines;
 mod make;
+mod operations;
 mod random;
+mod rules;
 mod sample;
 mod sizes;
 mod words;
@@ -27,6 +30,7 @@ driver make CASES SEED [CALLS [FIRST]]        writes the requests of cases FIRST
                                               or `three-byte-names`, v.name with all of these in order
 driver compare REQUESTS OURS THEIRS [TALLY]   compares two files of answers; adds the figures to those in the file TALLY
 driver figures TALLY                          prints the figures in the file TALLY
+driver table TALLY                            prints them call by call
 driver sample LINES SEED                      writes about so many requests that show every kind of answer";
 
 fn main() -> ExitCode {
@@ -52,6 +56,7 @@ fn run(words: &[&str]) -> Result<ExitCode, Box<dyn Error>> {
             return compare(requests, ours, theirs, Some(tally));
         }
         ["figures", tally] => println!("{}", read_tally(tally)?),
+        ["table", tally] => print!("{}", read_tally(tally)?.table()),
         ["sample", lines, seed] => sample(lines, seed)?,
         _ => return Err(format!("not a command; these are:\n{USAGE}").into()),
     }

@@ -13,11 +13,14 @@ struct Band {
 }
 
 /// Lines that a size asks for, those about 255 bytes or 128 entries, and all others.
-const LONG: Band = Band { over: 2_000, most_characters: 1_300_000 };
-const MIDDLING: Band = Band { over: 300, most_characters: 200_000 };
-const SHORT: Band = Band { over: 0, most_characters: 200_000 };
+const LONG: Band = Band { over: 2_000, most_characters: 1_550_000 };
+const MIDDLING: Band = Band { over: 300, most_characters: 350_000 };
+const SHORT: Band = Band { over: 0, most_characters: 250_000 };
 
-const MOST_LONG_LINES: usize = 60;
+const MOST_LONG_LINES: usize = 100;
+
+/// Refusals of a value, which stand at its entry.
+const OF_VALUES: &[u32] = &[4, 5, 12];
 
 /// So many cases are looked through for each line of the sample, and no fewer than `LEAST_CASES`.
 const CASES_A_LINE: usize = 20;
@@ -54,26 +57,40 @@ fn kind_of(request: &str) -> Kind {
     let name = request.split(' ').next();
     let place = calls::ALL.iter().position(|call| Some(call.name) == name);
     let label = match (place, reply(request.as_bytes())) {
-        (Some(place), Reply::Answered(answer)) => label(calls::ALL[place].name, &answer),
+        (Some(place), Reply::Answered(answer)) => label(calls::ALL[place].name, request, &answer),
         _ => "bad request".to_string(),
     };
     (place.unwrap_or(calls::ALL.len()), label)
 }
 
-fn label(call: &str, answer: &Answer) -> String {
+fn label(call: &str, request: &str, answer: &Answer) -> String {
     match answer {
-        Ok(Found::Value(printed)) if call == "prog" => match calls::refusal_printed(printed) {
-            Some(number) => refused(number),
-            None => "ok".to_string(),
+        Ok(Found::Value(words)) => match calls::refusal_printed(words) {
+            Some(number) if call == "prog" => refused(number, 0),
+            _ => format!("ok{}", form_of(call, words)),
         },
-        Ok(Found::Value(_)) => "ok".to_string(),
         Ok(Found::Absent) => "absent".to_string(),
-        Err(refusal) => refused(refusal.number),
+        Err(refusal) if call == "diag" && OF_VALUES.contains(&refusal.number) => {
+            let payload = request.split(' ').nth(1).unwrap_or_default();
+            format!("{} type {}", refused(refusal.number, 0), &payload[2 * refusal.place..][..2])
+        }
+        Err(refusal) => refused(refusal.number, refusal.input),
     }
 }
 
-fn refused(number: u32) -> String {
-    format!("refused {number}")
+/// The last field of a record, by its type; the last answer of a pairing; of Network Data which kinds of rows it has.
+fn form_of(call: &str, words: &str) -> String {
+    let last = words.rsplit(' ').next().unwrap_or_default();
+    match call {
+        "diag" => format!(" {}", last.split('=').next().unwrap_or_default()),
+        "pair" => format!(" {}", last.trim_end_matches(|c: char| c.is_ascii_digit())),
+        "nd" => last.split('|').map(|rows| if rows.ends_with('-') { " -" } else { " +" }).collect(),
+        _ => String::new(),
+    }
+}
+
+fn refused(number: u32, input: u32) -> String {
+    format!("refused {number} of {input}")
 }
 
 /// Takes the requests over a length out of each kind.
@@ -86,7 +103,7 @@ fn take_over(length: usize, kinds: &mut BTreeMap<Kind, Vec<String>>) -> Vec<(Kin
 }
 
 /// Takes the long requests out, those nearest to a size first, by their own length and their answer's, and first those
-/// kinds that nothing short shows, then those that stand just within a size or just over it, then those that cost least.
+/// kinds that nothing short shows, then those that stand just over a size, then just within it, then those that cost least.
 fn long_ones(kinds: &mut BTreeMap<Kind, Vec<String>>) -> Vec<(Kind, Vec<String>)> {
     let mut long = take_over(LONG.over, kinds);
     for (kind, requests) in &mut long {
@@ -97,14 +114,14 @@ fn long_ones(kinds: &mut BTreeMap<Kind, Vec<String>>) -> Vec<(Kind, Vec<String>)
     }
     long.sort_by_key(|(kind, requests)| {
         let shown_by_short = !kinds[kind].is_empty();
-        let beside_a_size = is_over_a_size(kind) || kind.1 == "ok";
-        (shown_by_short, !beside_a_size, requests.first().map(String::len))
+        let within_a_size = kind.1.starts_with("ok");
+        (shown_by_short, !is_over_a_size(kind), !within_a_size, requests.first().map(String::len))
     });
     long
 }
 
 fn is_over_a_size((_, label): &Kind) -> bool {
-    [1, 10, 13].iter().any(|number| *label == refused(*number))
+    [refused(1, 0), refused(1, 1), refused(10, 0), refused(13, 0)].contains(label)
 }
 
 /// A request of each kind in turn, then a second of each, and so on, as far as lines and characters reach.

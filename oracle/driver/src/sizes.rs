@@ -1,14 +1,11 @@
-//! The refusals that only our library has: document 01's sizes, of which the Rust knows none. Everything else that a
-//! call answers comes from the Rust. The order of the tests is 01's: 1, then the Rust's 7, 8 and 2, then 3, the Rust's
-//! 4, 5, 6 and 13, then 10, and 11.
-
-use meshcop::dataset::Dataset;
+//! The refusals by document 01's sizes, of which the Rust knows none. The order of the tests is 01's: 1, then the Rust's
+//! 7, 8 and 2, or 9, then 3, the Rust's 4, 5, 6 with 12 among them, the Rust's 13, then 14, 10, and 11.
 
 use crate::answer::Refusal;
-use crate::framed::PlacedEntry;
 
 pub const MOST_BYTES: usize = 8_192;
 pub const MOST_HEX_DIGITS: usize = 16_384;
+/// Of entries, and of operations.
 pub const MOST_ENTRIES: usize = 128;
 
 /// 1: a dataset, payload, list or bare value to read over 8,192 bytes.
@@ -27,26 +24,39 @@ pub fn test_hex_text(text: &[u8]) -> Result<(), Refusal> {
     Ok(())
 }
 
-/// 3: more than 128 entries, at the 129th.
-pub fn test_entry_count(entries: &[PlacedEntry]) -> Result<(), Refusal> {
-    match entries.get(MOST_ENTRIES) {
-        Some(entry) => Err(Refusal::at(3, entry.start)),
+/// 3: more than 128 entries or operations, at the 129th; these are the places of all.
+pub fn test_count(places: impl IntoIterator<Item = usize>) -> Result<(), Refusal> {
+    match places.into_iter().nth(MOST_ENTRIES) {
+        Some(place) => Err(Refusal::at(3, place)),
         None => Ok(()),
     }
 }
 
-/// 10: the result is a dataset of over 8,192 bytes as written, or of more than 128 entries.
-pub fn test_result(dataset: &Dataset, written: &[u8]) -> Result<(), Refusal> {
-    if written.len() > MOST_BYTES || dataset.entries().len() > MOST_ENTRIES {
+/// 10: the result is a dataset or list of over 8,192 bytes as written, or of more than 128 entries or operations.
+pub fn test_result(written: &[u8], count: usize) -> Result<(), Refusal> {
+    if written.len() > MOST_BYTES || count > MOST_ENTRIES {
         return Err(Refusal::at(10, 0));
     }
     Ok(())
 }
 
-/// 11: the lent output is shorter than the result.
-pub fn test_room(result: &[u8], cap: u64) -> Result<(), Refusal> {
-    if result.len() as u64 > cap {
+/// 11: of a lent output or table there is less than the result takes.
+pub fn test_room(taken: usize, lent: u64) -> Result<(), Refusal> {
+    if taken as u64 > lent {
         return Err(Refusal::at(11, 0));
     }
     Ok(())
 }
+
+/// How many rows of each kind a Network Data value may have; 12 where it has more.
+pub struct MostRows {
+    pub prefixes: usize,
+    pub has_routes: usize,
+    pub border_routers: usize,
+}
+
+pub const NETWORK_DATA: MostRows = MostRows { prefixes: 64, has_routes: 96, border_routers: 96 };
+
+/// As the Rust has it.
+pub const ANY_NETWORK_DATA: MostRows =
+    MostRows { prefixes: usize::MAX, has_routes: usize::MAX, border_routers: usize::MAX };

@@ -1,5 +1,5 @@
 -- `listing::lines_len` meets its contract. The invariant: need, and what the lines from pos on take, is what all take; and need is at most
--- 5 * pos, since an entry has at least 2 bytes and its line at most 9.
+-- 5 * pos, since an entry has at least 2 bytes and its line at most 10.
 -- Assumes nothing.
 use mathlib.Core.Path.{_≡_, ap, _∙_}
 use Prim.Native.Nat.{_+_, _*_, _-_, _≤_}
@@ -40,7 +40,7 @@ add-need : tie.Need-add-need Inv-loop μ-loop
 add-need c =
     let t = c .before .before in
     let inside = turn-inside _ _ _ (t .before .before .frame-at .ensures) _ _ _ (t .ty .given .1) in
-    omega (arith, c .line-len .ensures, line-below 2 3 (t .ty .given .0 .0) (t .ty .given .0 .1 .1 .0) (omega arith) (omega arith))
+    omega (arith, c .line-len .ensures, line-below 2 4 (t .ty .given .0 .0) (t .ty .given .0 .1 .1 .0) (omega arith) (omega arith))
 
 add-pos : tie.Need-add-pos Inv-loop μ-loop
 add-pos c =
@@ -57,7 +57,7 @@ loop-again c =
     let t = c .before .before in
     let found = t .before .before .frame-at .ensures in
     let inside = turn-inside _ _ _ found _ _ _ (t .ty .given .1) in
-    let short = line-below 2 3 (t .ty .given .0 .0) (t .ty .given .0 .1 .1 .0) (omega arith) (omega arith) in
+    let short = line-below 2 4 (t .ty .given .0 .0) (t .ty .given .0 .1 .1 .0) (omega arith) (omega arith) in
     omega (arith, c .line-len .ensures, length-turn _ _ _ found _ _ _ (t .ty .given .1))
 
 returns : tie.Need-returns Inv-loop μ-loop

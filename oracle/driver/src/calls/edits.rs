@@ -9,7 +9,7 @@ pub fn set(ty: u8, value: Vec<u8>, bytes: &[u8], cap: u64) -> Answer {
     let mut dataset = framed::read_dataset(bytes)?.dataset;
     dataset.set_raw(ty, value);
     let written = framed::write_dataset(&dataset)?;
-    sizes::test_result(&dataset, &written)?;
+    sizes::test_result(&written, dataset.entries().len())?;
     lent(&written, cap)
 }
 

@@ -5,12 +5,18 @@ use crate::sizes;
 use crate::words::{Words, bytes_word};
 
 mod base16;
+mod changes;
+mod delay;
+mod diagnostics;
 mod edits;
 mod framing;
 mod listing;
+mod pairing;
 mod parts;
 mod queries;
+mod records;
 
+use diagnostics::Tables;
 pub use listing::refusal_printed;
 pub use parts::VERSIONS;
 
@@ -65,10 +71,43 @@ pub const ALL: &[Call] = &[
     Call { name: "policy.bytes", answer: |w| Some(parts::policy_bytes(w.number()?, w.number()?)) },
     Call { name: "set", answer: |w| Some(edits::set(w.number()?, w.bytes()?, &w.bytes()?, w.number()?)) },
     Call { name: "remove", answer: |w| Some(edits::remove(w.number()?, &w.bytes()?, w.number()?)) },
+    Call { name: "ops", answer: |w| Some(changes::ops(&w.bytes()?)) },
+    Call { name: "run", answer: |w| Some(changes::run(&w.bytes()?, &w.bytes()?, w.number()?)) },
+    Call { name: "fold", answer: |w| Some(changes::fold(&w.bytes()?, w.number()?)) },
+    Call { name: "fold2", answer: |w| Some(changes::fold2(&w.bytes()?, &w.bytes()?, w.number()?)) },
+    Call { name: "d.0", answer: |w| Some(diagnostics::bare(0, &w.bytes()?)) },
+    Call { name: "d.1", answer: |w| Some(diagnostics::bare(1, &w.bytes()?)) },
+    Call { name: "d.2", answer: |w| Some(diagnostics::bare(2, &w.bytes()?)) },
+    Call { name: "d.3", answer: |w| Some(diagnostics::bare(3, &w.bytes()?)) },
+    Call { name: "d.4", answer: |w| Some(diagnostics::bare(4, &w.bytes()?)) },
+    Call { name: "d.5", answer: |w| Some(diagnostics::bare(5, &w.bytes()?)) },
+    Call { name: "d.6", answer: |w| Some(diagnostics::bare(6, &w.bytes()?)) },
+    Call { name: "d.8", answer: |w| Some(diagnostics::bare(8, &w.bytes()?)) },
+    Call { name: "d.9", answer: |w| Some(diagnostics::bare(9, &w.bytes()?)) },
+    Call { name: "d.14", answer: |w| Some(diagnostics::bare(14, &w.bytes()?)) },
+    Call { name: "d.15", answer: |w| Some(diagnostics::bare(15, &w.bytes()?)) },
+    Call { name: "d.16", answer: |w| Some(diagnostics::bare(16, &w.bytes()?)) },
+    Call { name: "d.17", answer: |w| Some(diagnostics::bare(17, &w.bytes()?)) },
+    Call { name: "d.18", answer: |w| Some(diagnostics::bare(18, &w.bytes()?)) },
+    Call { name: "d.23", answer: |w| Some(diagnostics::bare(23, &w.bytes()?)) },
+    Call { name: "d.30", answer: |w| Some(diagnostics::bare(30, &w.bytes()?)) },
+    Call { name: "nd", answer: |w| Some(diagnostics::nd(&w.bytes()?, &tables(w)?)) },
+    Call { name: "diag", answer: |w| Some(diagnostics::diag(&w.bytes()?, &tables(w)?)) },
+    Call { name: "timeout", answer: |w| Some(diagnostics::timeout(w.number()?)) },
+    Call { name: "pair", answer: |w| Some(pairing::pair(&w.bytes()?, w.number()?)) },
+    Call { name: "wdelay", answer: |w| Some(delay::wdelay(&w.bytes()?)) },
+    Call { name: "due", answer: |w| Some(delay::due(&w.bytes()?, w.number()?)) },
     Call { name: "flat", answer: |w| Some(listing::flat(&w.bytes()?, w.number()?)) },
     Call { name: "hexflat", answer: |w| Some(listing::hexflat(&w.bytes()?, w.number()?)) },
     Call { name: "prog", answer: |w| Some(listing::prog(&w.bytes()?)) },
 ];
+
+/// Calls that the Rust does not have: what they answer is document 01's, over what the Rust reads.
+pub const NOT_IN_THE_RUST: &[&str] = &["ops", "fold", "fold2", "pair", "wdelay", "due", "flat", "hexflat", "prog"];
+
+fn tables(words: &mut Words) -> Option<Tables> {
+    Some(Tables { prefixes: words.number()?, has_routes: words.number()?, border_routers: words.number()? })
+}
 
 fn value(words: impl Into<String>) -> Answer {
     Ok(Found::Value(words.into()))
@@ -76,6 +115,6 @@ fn value(words: impl Into<String>) -> Answer {
 
 /// What a call writes to a lent output: refusal 11, or the bytes.
 fn lent(written: &[u8], cap: u64) -> Answer {
-    sizes::test_room(written, cap)?;
+    sizes::test_room(written.len(), cap)?;
     value(bytes_word(written))
 }

@@ -46,11 +46,76 @@ fn edge_caps(call: &str, words: &str) -> Vec<u64> {
     }
 }
 
-/// The length of what the call would write, unless it refuses for another reason.
+/// The length of what the call would write, or how many answers it gives, unless it refuses for another reason.
 fn need_of(call: &str, words: &str) -> Option<u64> {
-    match reply(format!("{call} {words} {}", u64::MAX).as_bytes()) {
-        Reply::Answered(Ok(Found::Value(word))) if word == "-" => Some(0),
-        Reply::Answered(Ok(Found::Value(word))) => Some(word.len() as u64 / 2),
+    let answer = answer_to(format!("{call} {words} {}", u64::MAX))?;
+    match answer.as_str() {
+        _ if call == "pair" => answer.split(' ').next()?.parse().ok(),
+        "-" => Some(0),
+        _ => Some(answer.len() as u64 / 2),
+    }
+}
+
+fn answer_to(request: String) -> Option<String> {
+    match reply(request.as_bytes()) {
+        Reply::Answered(Ok(Found::Value(answer))) => Some(answer),
         _ => None,
     }
+}
+
+/// The words, and after them random sizes of the tables of prefixes, HasRoute and BorderRouter rows.
+pub fn with_tables(random: &mut Random, call: &str, words: &str) -> String {
+    let mut tables = table_needs(call, words).unwrap_or([0, 1, 2]);
+    let one = random.below(tables.len());
+    match random.below(16) {
+        0..=6 => {}
+        7..=11 => tables[one] = tables[one].saturating_sub(1),
+        12 => tables[one] += 1,
+        13 => tables = tables.map(|need| random.below(need as usize + 2) as u64),
+        14 => tables = [MUCH; 3],
+        _ => tables[one] = 0,
+    }
+    tables_words(words, tables)
+}
+
+/// The words with each of the tables at its edge.
+pub fn with_each_edge_tables(call: &str, words: &str) -> Vec<String> {
+    edge_tables(call, words).into_iter().map(|tables| tables_words(words, tables)).collect()
+}
+
+/// Each of the words with one of the edges of its tables, in turn.
+pub fn with_edge_tables_in_turn(call: &str, all_words: &[String]) -> Vec<String> {
+    let with_one = |(turn, words): (usize, &String)| {
+        let edges = edge_tables(call, words);
+        tables_words(words, edges[turn % edges.len()])
+    };
+    all_words.iter().enumerate().map(with_one).collect()
+}
+
+/// Just enough, one too few or too many in each table, nothing, and much; where the call refuses whatever is lent, the last.
+fn edge_tables(call: &str, words: &str) -> Vec<[u64; 3]> {
+    let Some(needs) = table_needs(call, words) else {
+        return vec![[0; 3], [u64::MAX; 3]];
+    };
+    let mut edges = vec![needs];
+    for table in 0..needs.len() {
+        let (mut fewer, mut more) = (needs, needs);
+        fewer[table] = fewer[table].saturating_sub(1);
+        more[table] += 1;
+        edges.extend([fewer, more]);
+    }
+    edges.extend([[0; 3], [u64::MAX; 3]]);
+    edges
+}
+
+fn tables_words(words: &str, [prefixes, has_routes, border_routers]: [u64; 3]) -> String {
+    format!("{words} {prefixes} {has_routes} {border_routers}")
+}
+
+/// The rows of the record's Network Data, unless the call refuses for another reason.
+fn table_needs(call: &str, words: &str) -> Option<[u64; 3]> {
+    let answer = answer_to(format!("{call} {}", tables_words(words, [u64::MAX; 3])))?;
+    let text = answer.split(' ').find_map(|field| field.strip_prefix("7=")).unwrap_or("-|-|-");
+    let mut rows = text.split('|').map(|rows| if rows == "-" { 0 } else { rows.split('/').count() as u64 });
+    Some([rows.next()?, rows.next()?, rows.next()?])
 }

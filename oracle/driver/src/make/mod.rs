@@ -10,14 +10,22 @@ use crate::words::bytes_word;
 
 mod base16;
 mod caps;
+mod changes;
 mod damage;
 mod datasets;
+mod delay;
+mod diag_values;
+mod diagnostics;
 mod edits;
 mod framing;
 mod listing;
+mod lists;
 mod masks;
 mod names;
+mod network;
+mod pairing;
 mod parts;
+mod payloads;
 mod queries;
 mod short;
 mod texts;
@@ -82,6 +90,32 @@ const MAKERS: &[Maker] = &[
     parts::POLICY_BYTES,
     edits::SET,
     edits::REMOVE,
+    changes::OPS,
+    changes::RUN,
+    changes::FOLD,
+    changes::FOLD2,
+    diagnostics::bare::<0>("d.0"),
+    diagnostics::bare::<1>("d.1"),
+    diagnostics::bare::<2>("d.2"),
+    diagnostics::bare::<3>("d.3"),
+    diagnostics::bare::<4>("d.4"),
+    diagnostics::ROUTE64,
+    diagnostics::bare::<6>("d.6"),
+    diagnostics::bare::<8>("d.8"),
+    diagnostics::bare::<9>("d.9"),
+    diagnostics::bare::<14>("d.14"),
+    diagnostics::bare::<15>("d.15"),
+    diagnostics::CHILDREN,
+    diagnostics::bare::<17>("d.17"),
+    diagnostics::bare::<18>("d.18"),
+    diagnostics::bare::<23>("d.23"),
+    diagnostics::ADDRESSES,
+    diagnostics::ND,
+    diagnostics::DIAG,
+    diagnostics::TIMEOUT,
+    pairing::PAIR,
+    delay::WDELAY,
+    delay::DUE,
     listing::FLAT,
     listing::HEXFLAT,
     listing::PROG,
@@ -98,8 +132,8 @@ enum Source {
 /// The sources of eight cases in a row. Short inputs and edges come once each; when they are used up, random ones follow.
 #[rustfmt::skip]
 const PATTERN: [Source; 8] = [
-    Source::Short, Source::Edge, Source::Random, Source::Edge,
-    Source::Short, Source::Edge, Source::Short, Source::Edge,
+    Source::Short, Source::Edge, Source::Short, Source::Random,
+    Source::Short, Source::Edge, Source::Short, Source::Random,
 ];
 
 /// One random request in so many is spoilt, most often into one that cannot be read.

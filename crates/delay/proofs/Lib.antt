@@ -1,0 +1,4 @@
+pub mod Cases
+pub mod Papers
+pub mod Rounding
+pub mod Lines

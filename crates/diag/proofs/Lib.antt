@@ -1,0 +1,10 @@
+pub mod Lasts
+pub mod Finds
+pub mod Checks
+pub mod Fields
+pub mod Whole
+pub mod Callers
+pub mod Lists
+pub mod Unknown
+pub mod Papers
+pub mod Bench

@@ -1,0 +1,104 @@
+-- THE definition of what a diagnostic payload says (document 01, "Diagnostic values").
+-- Assumes nothing.
+use Prim.Native.Nat.{ℕ, _+_}
+use mathlib.Core.List.{List, map}
+use lib.ListN.{length, drop}
+use Rattle.refusal.specs.Answer.{Answer, thenDo, onGiven}
+use Rattle.wire.specs.Be.{be}
+use Rattle.tlv.specs.Entries.{Entry}
+use Rattle.network_data.specs.Decode.{Prefix, contents, countsOf}
+use Rattle.network_data.specs.declared.Counts.{Counts}
+use Rattle.diag_values.specs.Values.{byteAt, modeValue, ConnectivityValue, connectivityOf, leaderOf, countersOf, addressListOf}
+use Rattle.diag_values.specs.Routes.{Route, routeOf}
+use Rattle.diag_values.specs.Rows.{childRows, addresses, nth}
+use Rattle.diag_values.specs.declared.ModeData.{ModeData}
+use Rattle.diag_values.specs.declared.LeaderData.{LeaderData}
+use Rattle.diag_values.specs.declared.MacCounters.{MacCounters}
+use Rattle.diag_values.specs.declared.ChildTableEntry.{ChildTableEntry}
+use Rattle.diag_values.specs.declared.ChildIpv6AddrInfo.{ChildIpv6AddrInfo}
+use Rattle.diag.specs.Parts.{allOf, Said, lastSays, lastPart}
+use Rattle.diag.specs.Checked.{checked}
+
+-- Network Data: its prefixes with their rows, and how many records of each kind that is
+pub record NetworkDataValue : Type 0 where
+  pub prefixes : List Prefix
+  pub counts : Counts
+
+abbrev pub networkDataOf : List ℕ → NetworkDataValue
+networkDataOf v = record { prefixes = contents v; counts = countsOf (contents v) }
+
+-- "any bytes"
+abbrev pub raw : List ℕ → List ℕ
+raw v = v
+
+abbrev pub byteOf : List ℕ → ℕ
+byteOf v = byteAt v 0
+
+pub record Diag : Type 0 where
+  pub extMacAddr : Answer (Said (List ℕ))
+  pub macAddr : Answer ℕ
+  pub mode : Answer ModeData
+  pub timeout : Answer ℕ
+  pub connectivity : Answer ConnectivityValue
+  pub route64 : Answer (Said Route)
+  pub leaderData : Answer LeaderData
+  pub networkData : Answer (Said NetworkDataValue)
+  pub addresses : Answer (Said (List (List ℕ)))
+  pub macCounters : Answer MacCounters
+  pub batteryLevel : Answer ℕ
+  pub supplyVoltage : Answer ℕ
+  pub childTable : Answer (Said (List ChildTableEntry))
+  pub channelPages : Answer (Said (List ℕ))
+  pub typeList : Answer (Said (List ℕ))
+  pub eui64 : Answer (Said (List ℕ))
+  pub childLists : ℕ
+
+-- "30: RLOC16, then the same" (whole addresses); "child ID is RLOC16 modulo 512"
+pub record AddressList : Type 0 where
+  pub rloc16 : ℕ
+  pub childId : ℕ
+  pub addresses : Said (List (List ℕ))
+
+-- of an entry, by what its value says: there the addresses' place counts from the value's first byte, here from the payload's
+abbrev pub listIn : Entry → ChildIpv6AddrInfo → AddressList
+listIn e x = record {
+  rloc16 = x .rloc16;
+  childId = x .«child_id»;
+  addresses = record { start = e .start + x .start; len = x .len; says = addresses (drop (x .start) (e .value)) };
+}
+
+abbrev pub addressList : Entry → AddressList
+addressList e = listIn e (addressListOf (e .value))
+
+-- "type 30 gathers all, in order"
+unfoldable pub addressLists : List Entry → List AddressList
+addressLists es = map addressList (allOf 30 es)
+
+-- "Last of a repeated type counts": of each type what its last value says; of type 30 how many lists there are
+unfoldable pub diag : List Entry → Diag
+diag es = record {
+  extMacAddr = lastPart 0 raw es;
+  macAddr = lastSays 1 be es;
+  mode = lastSays 2 modeValue es;
+  timeout = lastSays 3 be es;
+  connectivity = lastSays 4 connectivityOf es;
+  route64 = lastPart 5 routeOf es;
+  leaderData = lastSays 6 leaderOf es;
+  networkData = lastPart 7 networkDataOf es;
+  addresses = lastPart 8 addresses es;
+  macCounters = lastSays 9 countersOf es;
+  batteryLevel = lastSays 14 byteOf es;
+  supplyVoltage = lastSays 15 be es;
+  childTable = lastPart 16 childRows es;
+  channelPages = lastPart 17 raw es;
+  typeList = lastPart 18 raw es;
+  eui64 = lastPart 23 raw es;
+  childLists = length (addressLists es);
+}
+
+unfoldable pub decode : List ℕ → Answer Diag
+decode s = onGiven diag (checked s)
+
+-- address list k of a payload, from 0
+unfoldable pub childList : (k : ℕ) → List ℕ → Answer AddressList
+childList k s = thenDo (checked s) (λ (es : List Entry). nth (addressLists es) k)

@@ -1,0 +1,477 @@
+// What a diagnostic payload says (decode.rs, model.rs): the record of its values, those that stay in the payload as parts of it.
+use diag_values::ChildIpv6AddrInfo;
+use diag_values::Connectivity;
+use diag_values::Judged;
+use diag_values::LeaderData;
+use diag_values::MacCounters;
+use diag_values::ModeData;
+use diag_values::OptU8;
+use diag_values::OptU16;
+use diag_values::Read8;
+use diag_values::ReadAddressList;
+use diag_values::ReadConnectivity;
+use diag_values::ReadLeaderData;
+use diag_values::ReadMacCounters;
+use diag_values::ReadMode;
+use network_data::Checked;
+use network_data::Counts;
+use refusal::Refusal;
+use tlv::Counted;
+use tlv::Found;
+use tlv::Frame;
+use wire::Read16;
+use wire::Read32;
+ghost use mathlib.Core.Path.{_≡_};
+ghost use Prim.Native.Nat.{_+_, _≤_, _<_};
+ghost use lib.ListN.{length};
+ghost use Rattle.refusal.specs.Answer.{onGiven};
+ghost use Rattle.wire.specs.Be.{be};
+ghost use Rattle.tlv.specs.Entries.{framing};
+ghost use Rattle.tlv.specs.Last.{spot};
+ghost use Rattle.tlv.specs.Answers.{countedAnswer, foundAnswer};
+ghost use Rattle.diag_values.specs.Values.{modeValue, connectivityOf, leaderOf, countersOf};
+ghost use Rattle.diag_values.specs.Rows.{nth};
+ghost use Rattle.diag_values.specs.Answers.{judgedAnswer, judged, optAnswer8, optAnswer16};
+ghost use Rattle.diag.specs.Parts.{allOf, entriesFrom};
+ghost use Rattle.diag.specs.Checked.{entryValue, checked};
+ghost use Rattle.diag.specs.Diag.{byteOf, decode, childList};
+ghost use Rattle.diag.specs.Answers.{optAnswer32, optMode, optConnectivity, optLeaderData, optMacCounters, optPart, optNetworkData, diagOf, decodedAnswer, childListAnswer};
+ghost use Rattle.diag.specs.Loops.{spotOf, Located, InPayload, readAt, networkAt, partOf, collected, listAt};
+
+// A field that may be missing.
+pub enum OptU32 {
+    Some(u32),
+    None,
+}
+
+pub enum OptMode {
+    Some(ModeData),
+    None,
+}
+
+pub enum OptConnectivity {
+    Some(Connectivity),
+    None,
+}
+
+pub enum OptLeaderData {
+    Some(LeaderData),
+    None,
+}
+
+pub enum OptMacCounters {
+    Some(MacCounters),
+    None,
+}
+
+// A value that stays in the payload: the len bytes from start on.
+pub enum OptPart {
+    Some { start: usize, len: usize },
+    None,
+}
+
+// Where Network Data stands in the payload, and how many records it has.
+pub struct NetworkDataPart {
+    pub start: usize,
+    pub len: usize,
+    pub counts: Counts,
+}
+
+pub enum OptNetworkData {
+    Some(NetworkDataPart),
+    None,
+}
+
+// A payload's values, the last of each type; of type 30 how many lists there are (`child_list` hands them out).
+pub struct NetDiagData {
+    pub ext_mac_addr: OptPart,
+    pub mac_addr: OptU16,
+    pub mode: OptMode,
+    pub timeout: OptU32,
+    pub connectivity: OptConnectivity,
+    pub route64: OptPart,
+    pub leader_data: OptLeaderData,
+    pub network_data: OptNetworkData,
+    pub addresses: OptPart,
+    pub mac_counters: OptMacCounters,
+    pub battery_level: OptU8,
+    pub supply_voltage: OptU16,
+    pub child_table: OptPart,
+    pub channel_pages: OptPart,
+    pub type_list: OptPart,
+    pub eui64: OptPart,
+    pub child_ipv6_addresses: usize,
+}
+
+pub enum Decoded {
+    Data(NetDiagData),
+    Refused(Refusal),
+}
+
+// For each type below 32: how many entries have it, and where the last of them lies.
+struct Places {
+    count: [usize; 32],
+    place: [usize; 32],
+    start: [usize; 32],
+    len: [usize; 32],
+}
+
+// Whether the value of an entry decodes. Refusals: 1, then 4, 5 and 12 at the entry.
+fn check_entry(ty: u8, value: &[u8], place: usize) -> Judged
+    ensures { λ r. ⌜ judgedAnswer r ≡ judged (entryValue ty place (now (value .entry))) ⌝ }
+{
+    if ty == diag_values::NETWORK_DATA {
+        return match network_data::check(value, place) {
+            Checked::Counted(_) => Judged::Kept,
+            Checked::Refused(r) => Judged::Refused(r),
+        };
+    }
+    diag_values::check_value(ty, value, place)
+}
+
+// How many entries a payload has, each of which decodes. Refusals: 1, 2, 3, then 4, 5 and 12, the first met.
+pub fn check_values(payload: &[u8]) -> Counted
+    ensures { λ r. ⌜ countedAnswer r ≡ onGiven length (checked (now (payload .entry))) ⌝ }
+{
+    let n = match tlv::count_entries(payload, 0) {
+        Counted::Refused(r) => {
+            return Counted::Refused(r);
+        }
+        Counted::Entries(n) => n,
+    };
+    let mut at: usize = 0;
+    loop {
+        match tlv::frame_at(payload, at) {
+            Frame::Entry { ty, start, len } => {
+                let next = start + len;
+                match check_entry(ty, &payload[start..next], at) {
+                    Judged::Refused(r) => {
+                        return Counted::Refused(r);
+                    }
+                    Judged::Kept => {}
+                }
+                at = next;
+            }
+            _ => {
+                return Counted::Entries(n);
+            }
+        }
+    }
+}
+
+// One pass over the entries, whether or not the payload is refused.
+fn find_all(payload: &[u8]) -> Places
+    ensures { λ r. ⌜ Located r (now (payload .entry)) ⌝ }
+{
+    let mut p = Places {
+        count: [0usize; 32],
+        place: [0usize; 32],
+        start: [0usize; 32],
+        len: [0usize; 32],
+    };
+    let mut at: usize = 0;
+    loop {
+        match tlv::frame_at(payload, at) {
+            Frame::Entry { ty, start, len } => {
+                let next = start + len;
+                let t = ty as usize;
+                if t < 32 {
+                    p.count[t] += 1;
+                    p.place[t] = at;
+                    p.start[t] = start;
+                    p.len[t] = len;
+                }
+                at = next;
+            }
+            _ => {
+                return p;
+            }
+        }
+    }
+}
+
+// Where the last entry of a type lies.
+fn found_at(p: Places, ty: u8) -> Found
+    requires { ⌜ ty < 32 ⌝ }
+    ensures { λ r. ⌜ foundAnswer r ≡ spotOf p ty ⌝ }
+{
+    let t = ty as usize;
+    if p.count[t] == 0 {
+        return Found::Absent;
+    }
+    Found::At {
+        place: p.place[t],
+        start: p.start[t],
+        len: p.len[t],
+    }
+}
+
+// Its value as a part of the payload.
+fn part_at(p: Places, ty: u8) -> OptPart
+    requires { ⌜ ty < 32 ⌝ }
+    ensures { λ r. ⌜ optPart r ≡ onGiven partOf (spotOf p ty) ⌝ }
+{
+    let t = ty as usize;
+    if p.count[t] == 0 {
+        return OptPart::None;
+    }
+    OptPart::Some {
+        start: p.start[t],
+        len: p.len[t],
+    }
+}
+
+// What the value of an entry says, where it keeps the rule of its type.
+fn u16_in(payload: &[u8], e: Found) -> OptU16
+    requires { ⌜ InPayload (now payload) (foundAnswer e) ⌝ }
+    ensures { λ r. ⌜ optAnswer16 r ≡ readAt 1 be (now (payload .entry)) (foundAnswer e) ⌝ }
+{
+    match e {
+        Found::At { place, start, len } => {
+            let end = start + len;
+            match wire::read_u16(&payload[start..end], place) {
+                Read16::Value(x) => OptU16::Some(x),
+                _ => OptU16::None,
+            }
+        }
+        _ => OptU16::None,
+    }
+}
+
+fn u32_in(payload: &[u8], e: Found) -> OptU32
+    requires { ⌜ InPayload (now payload) (foundAnswer e) ⌝ }
+    ensures { λ r. ⌜ optAnswer32 r ≡ readAt 3 be (now (payload .entry)) (foundAnswer e) ⌝ }
+{
+    match e {
+        Found::At { place, start, len } => {
+            let end = start + len;
+            match wire::read_u32(&payload[start..end], place) {
+                Read32::Value(x) => OptU32::Some(x),
+                _ => OptU32::None,
+            }
+        }
+        _ => OptU32::None,
+    }
+}
+
+fn u8_in(payload: &[u8], e: Found) -> OptU8
+    requires { ⌜ InPayload (now payload) (foundAnswer e) ⌝ }
+    ensures { λ r. ⌜ optAnswer8 r ≡ readAt 14 byteOf (now (payload .entry)) (foundAnswer e) ⌝ }
+{
+    match e {
+        Found::At { place, start, len } => {
+            let end = start + len;
+            match diag_values::read_u8(&payload[start..end], place) {
+                Read8::Value(x) => OptU8::Some(x),
+                _ => OptU8::None,
+            }
+        }
+        _ => OptU8::None,
+    }
+}
+
+fn mode_in(payload: &[u8], e: Found) -> OptMode
+    requires { ⌜ InPayload (now payload) (foundAnswer e) ⌝ }
+    ensures { λ r. ⌜ optMode r ≡ readAt 2 modeValue (now (payload .entry)) (foundAnswer e) ⌝ }
+{
+    match e {
+        Found::At { place, start, len } => {
+            let end = start + len;
+            match ModeData::decode(&payload[start..end], place) {
+                ReadMode::Value(x) => OptMode::Some(x),
+                _ => OptMode::None,
+            }
+        }
+        _ => OptMode::None,
+    }
+}
+
+fn connectivity_in(payload: &[u8], e: Found) -> OptConnectivity
+    requires { ⌜ InPayload (now payload) (foundAnswer e) ⌝ }
+    ensures { λ r. ⌜ optConnectivity r ≡ readAt 4 connectivityOf (now (payload .entry)) (foundAnswer e) ⌝ }
+{
+    match e {
+        Found::At { place, start, len } => {
+            let end = start + len;
+            match diag_values::decode_connectivity(&payload[start..end], place) {
+                ReadConnectivity::Value(x) => OptConnectivity::Some(x),
+                _ => OptConnectivity::None,
+            }
+        }
+        _ => OptConnectivity::None,
+    }
+}
+
+fn leader_data_in(payload: &[u8], e: Found) -> OptLeaderData
+    requires { ⌜ InPayload (now payload) (foundAnswer e) ⌝ }
+    ensures { λ r. ⌜ optLeaderData r ≡ readAt 6 leaderOf (now (payload .entry)) (foundAnswer e) ⌝ }
+{
+    match e {
+        Found::At { place, start, len } => {
+            let end = start + len;
+            match diag_values::decode_leader_data(&payload[start..end], place) {
+                ReadLeaderData::Value(x) => OptLeaderData::Some(x),
+                _ => OptLeaderData::None,
+            }
+        }
+        _ => OptLeaderData::None,
+    }
+}
+
+fn mac_counters_in(payload: &[u8], e: Found) -> OptMacCounters
+    requires { ⌜ InPayload (now payload) (foundAnswer e) ⌝ }
+    ensures { λ r. ⌜ optMacCounters r ≡ readAt 9 countersOf (now (payload .entry)) (foundAnswer e) ⌝ }
+{
+    match e {
+        Found::At { place, start, len } => {
+            let end = start + len;
+            match diag_values::decode_mac_counters(&payload[start..end], place) {
+                ReadMacCounters::Value(x) => OptMacCounters::Some(x),
+                _ => OptMacCounters::None,
+            }
+        }
+        _ => OptMacCounters::None,
+    }
+}
+
+// Where Network Data stands, and how many records it has.
+fn network_data_in(payload: &[u8], e: Found) -> OptNetworkData
+    requires { ⌜ InPayload (now payload) (foundAnswer e) ⌝ }
+    ensures { λ r. ⌜ optNetworkData (now (payload .entry)) r ≡ networkAt (now (payload .entry)) (foundAnswer e) ⌝ }
+{
+    match e {
+        Found::At { place, start, len } => {
+            let end = start + len;
+            match network_data::check(&payload[start..end], place) {
+                Checked::Counted(counts) => OptNetworkData::Some(NetworkDataPart {
+                    start: start,
+                    len: len,
+                    counts: counts,
+                }),
+                Checked::Refused(_) => OptNetworkData::None,
+            }
+        }
+        _ => OptNetworkData::None,
+    }
+}
+
+// The record of a payload, whether or not it is refused.
+fn collect(payload: &[u8]) -> NetDiagData
+    ensures { λ r. ⌜ diagOf (now (payload .entry)) r ≡ collected (now (payload .entry)) ⌝ }
+{
+    let p = find_all(payload);
+    NetDiagData {
+        ext_mac_addr: part_at(p, diag_values::EXT_MAC_ADDRESS),
+        mac_addr: u16_in(payload, found_at(p, diag_values::MAC_ADDRESS)),
+        mode: mode_in(payload, found_at(p, diag_values::MODE)),
+        timeout: u32_in(payload, found_at(p, diag_values::TIMEOUT)),
+        connectivity: connectivity_in(payload, found_at(p, diag_values::CONNECTIVITY)),
+        route64: part_at(p, diag_values::ROUTE64),
+        leader_data: leader_data_in(payload, found_at(p, diag_values::LEADER_DATA)),
+        network_data: network_data_in(payload, found_at(p, diag_values::NETWORK_DATA)),
+        addresses: part_at(p, diag_values::IPV6_ADDRESSES),
+        mac_counters: mac_counters_in(payload, found_at(p, diag_values::MAC_COUNTERS)),
+        battery_level: u8_in(payload, found_at(p, diag_values::BATTERY_LEVEL)),
+        supply_voltage: u16_in(payload, found_at(p, diag_values::SUPPLY_VOLTAGE)),
+        child_table: part_at(p, diag_values::CHILD_TABLE),
+        channel_pages: part_at(p, diag_values::CHANNEL_PAGES),
+        type_list: part_at(p, diag_values::TYPE_LIST),
+        eui64: part_at(p, diag_values::EUI64),
+        child_ipv6_addresses: p.count[diag_values::CHILD_IPV6_ADDRESSES as usize],
+    }
+}
+
+impl NetDiagData {
+    // What a payload says. Refusals: 1, 2, 3, then 4, 5 and 12 at the first entry that does not decode.
+    pub fn decode(payload: &[u8]) -> Decoded
+        ensures { λ r. ⌜ decodedAnswer (now (payload .entry)) r ≡ decode (now (payload .entry)) ⌝ }
+    {
+        match check_values(payload) {
+            Counted::Refused(r) => Decoded::Refused(r),
+            Counted::Entries(_) => Decoded::Data(collect(payload)),
+        }
+    }
+}
+
+// The first entry of type 30 from a place on, where an entry begins; whether or not the payload is refused.
+pub fn next_child_list(payload: &[u8], place: usize) -> Found
+    ensures { λ r. ⌜ foundAnswer r ≡ onGiven spot (nth (allOf 30 (entriesFrom (now (payload .entry)) place)) 0) ⌝ }
+{
+    let mut at: usize = place;
+    loop {
+        match tlv::frame_at(payload, at) {
+            Frame::Entry { ty, start, len } => {
+                if ty == diag_values::CHILD_IPV6_ADDRESSES {
+                    return Found::At {
+                        place: at,
+                        start: start,
+                        len: len,
+                    };
+                }
+                at = start + len;
+            }
+            _ => {
+                return Found::Absent;
+            }
+        }
+    }
+}
+
+// Entry k of type 30, from 0.
+fn nth_child_list(payload: &[u8], k: usize) -> Found
+    ensures { λ r. ⌜ foundAnswer r ≡ onGiven spot (nth (allOf 30 (framing (now (payload .entry)) .entries)) k) ⌝ }
+{
+    let mut left: usize = k;
+    let mut at: usize = 0;
+    loop {
+        match next_child_list(payload, at) {
+            Found::At { place, start, len } => {
+                if left == 0 {
+                    return Found::At {
+                        place: place,
+                        start: start,
+                        len: len,
+                    };
+                }
+                left -= 1;
+                at = start + len;
+            }
+            _ => {
+                return Found::Absent;
+            }
+        }
+    }
+}
+
+// The address list of type 30 that stands at a part of the payload; its addresses as a part of the payload too.
+fn list_at(payload: &[u8], place: usize, start: usize, len: usize) -> ReadAddressList
+    requires { ⌜ start + len ≤ length (now payload) ⌝ }
+    ensures { λ r. ⌜ childListAnswer (now (payload .entry)) r ≡ listAt (now (payload .entry)) place start len ⌝ }
+{
+    match diag_values::decode_child_ipv6_addresses(&payload[start..start + len], place) {
+        ReadAddressList::Value(x) => ReadAddressList::Value(ChildIpv6AddrInfo {
+            rloc16: x.rloc16,
+            child_id: x.child_id,
+            start: start + x.start,
+            len: x.len,
+        }),
+        ReadAddressList::Absent => ReadAddressList::Absent,
+        ReadAddressList::Refused(r) => ReadAddressList::Refused(r),
+    }
+}
+
+// Address list k of a payload, from 0: the child's RLOC16 and ID, and where in the payload its addresses stand. Refusals: those of `decode`.
+pub fn child_list(payload: &[u8], k: usize) -> ReadAddressList
+    ensures { λ r. ⌜ childListAnswer (now (payload .entry)) r ≡ childList k (now (payload .entry)) ⌝ }
+{
+    match check_values(payload) {
+        Counted::Refused(r) => {
+            return ReadAddressList::Refused(r);
+        }
+        Counted::Entries(_) => {}
+    }
+    match nth_child_list(payload, k) {
+        Found::At { place, start, len } => list_at(payload, place, start, len),
+        _ => ReadAddressList::Absent,
+    }
+}

@@ -1,0 +1,115 @@
+-- The meanings of the code's answers tell them apart, so that a contract on a meaning determines the answer.
+-- Assumes nothing.
+use mathlib.Core.Path.{_≡_, refl, ap}
+use Prim.Native.Nat.{ℕ}
+use Rattle.refusal.specs.Answer.{Answer, given, absent, refused}
+use Rattle.refusal.proofs.Papers.{Tells, tells, refusal-back, codeOf}
+use Rattle.diag_values.specs.Values.{ConnectivityValue}
+use Rattle.diag_values.specs.Routes.{RouteRead}
+use Rattle.diag_values.specs.Rows.{Part}
+use Rattle.diag_values.specs.Answers.{judgedAnswer, optAnswer8, optAnswer16, answer8, modeAnswer, connectivityPaper, connectivityAnswer, leaderAnswer, countersAnswer, addressListAnswer, routeRead, routeAnswer, childAnswer, partAnswer}
+use Rattle.diag_values.specs.declared.Judged.{Judged}
+use Rattle.diag_values.specs.declared.Judged.the-variants as j
+use Rattle.diag_values.specs.declared.OptU8.{OptU8}
+use Rattle.diag_values.specs.declared.OptU8.the-variants as o8
+use Rattle.diag_values.specs.declared.OptU16.{OptU16}
+use Rattle.diag_values.specs.declared.OptU16.the-variants as o16
+use Rattle.diag_values.specs.declared.Read8.the-variants as v8
+use Rattle.diag_values.specs.declared.ReadMode.the-variants as m
+use Rattle.diag_values.specs.declared.Connectivity.{Connectivity}
+use Rattle.diag_values.specs.declared.ReadConnectivity.the-variants as y
+use Rattle.diag_values.specs.declared.ReadLeaderData.the-variants as l
+use Rattle.diag_values.specs.declared.ReadMacCounters.the-variants as k
+use Rattle.diag_values.specs.declared.ReadAddressList.the-variants as a
+use Rattle.diag_values.specs.declared.ReadRoute.the-variants as r
+use Rattle.diag_values.specs.declared.ReadChild.the-variants as c
+use Rattle.diag_values.specs.declared.ReadPart.the-variants as p
+
+abbrev judgedOf : Answer (Unit {0}) → Judged
+judgedOf x = codeOf (λ (u : Unit {0}). j.Kept) j.Kept j.Refused x
+
+judged-back : (x : Judged) → judgedOf (judgedAnswer x) ≡ x
+judged-back j.Kept = refl
+judged-back (j.Refused x) = ap j.Refused (refusal-back x)
+
+pub judged-tells : Tells judgedAnswer
+judged-tells = tells judgedAnswer judgedOf judged-back
+
+pub read8-tells : Tells answer8
+read8-tells = tells answer8 (codeOf v8.Value v8.Absent v8.Refused) (elim [ v8.Value x ↦ refl | v8.Absent ↦ refl | v8.Refused x ↦ ap v8.Refused (refusal-back x) ])
+
+pub mode-tells : Tells modeAnswer
+mode-tells = tells modeAnswer (codeOf m.Value m.Absent m.Refused) (elim [ m.Value x ↦ refl | m.Absent ↦ refl | m.Refused x ↦ ap m.Refused (refusal-back x) ])
+
+pub leader-tells : Tells leaderAnswer
+leader-tells = tells leaderAnswer (codeOf l.Value l.Absent l.Refused) (elim [ l.Value x ↦ refl | l.Absent ↦ refl | l.Refused x ↦ ap l.Refused (refusal-back x) ])
+
+pub counters-tells : Tells countersAnswer
+counters-tells = tells countersAnswer (codeOf k.Value k.Absent k.Refused) (elim [ k.Value x ↦ refl | k.Absent ↦ refl | k.Refused x ↦ ap k.Refused (refusal-back x) ])
+
+pub address-list-tells : Tells addressListAnswer
+address-list-tells = tells addressListAnswer (codeOf a.Value a.Absent a.Refused) (elim [ a.Value x ↦ refl | a.Absent ↦ refl | a.Refused x ↦ ap a.Refused (refusal-back x) ])
+
+pub route-row-tells : Tells routeAnswer
+route-row-tells = tells routeAnswer (codeOf r.Value r.Absent r.Refused) (elim [ r.Value x ↦ refl | r.Absent ↦ refl | r.Refused x ↦ ap r.Refused (refusal-back x) ])
+
+pub child-tells : Tells childAnswer
+child-tells = tells childAnswer (codeOf c.Value c.Absent c.Refused) (elim [ c.Value x ↦ refl | c.Absent ↦ refl | c.Refused x ↦ ap c.Refused (refusal-back x) ])
+
+pub part-tells : Tells partAnswer
+part-tells =
+    tells partAnswer (codeOf (λ (x : Part). p.Part (x .start) (x .len)) p.Absent p.Refused)
+    (elim [ p.Part s n ↦ refl | p.Absent ↦ refl | p.Refused x ↦ ap p.Refused (refusal-back x) ])
+
+-- the answer and the Route64 beside it
+pub route64-tells : Tells routeRead
+route64-tells =
+    tells routeRead (λ (x : RouteRead). record { answer = judgedOf (x .answer); route = x .route })
+    (λ x. ap (λ (u : Judged). record { answer = u; route = x .route }) (judged-back (x .answer)))
+
+-- ---- Connectivity, whose late fields may be missing
+
+abbrev u8Of : Answer ℕ → OptU8
+u8Of (given x) = o8.Some x
+u8Of absent = o8.None
+u8Of (refused n p i) = o8.None
+
+u8-back : (x : OptU8) → u8Of (optAnswer8 x) ≡ x
+u8-back (o8.Some x) = refl
+u8-back o8.None = refl
+
+pub opt8-tells : Tells optAnswer8
+opt8-tells = tells optAnswer8 u8Of u8-back
+
+abbrev u16Of : Answer ℕ → OptU16
+u16Of (given x) = o16.Some x
+u16Of absent = o16.None
+u16Of (refused n p i) = o16.None
+
+u16-back : (x : OptU16) → u16Of (optAnswer16 x) ≡ x
+u16-back (o16.Some x) = refl
+u16-back o16.None = refl
+
+pub opt16-tells : Tells optAnswer16
+opt16-tells = tells optAnswer16 u16Of u16-back
+
+abbrev pub connectivityFrom : ConnectivityValue → Connectivity
+connectivityFrom x = record {
+  «parent_priority» = x .parentPriority;
+  «link_quality_3» = x .linkQuality3;
+  «link_quality_2» = x .linkQuality2;
+  «link_quality_1» = x .linkQuality1;
+  «leader_cost» = x .leaderCost;
+  «id_sequence» = x .idSequence;
+  «active_routers» = x .activeRouters;
+  «rx_off_child_buffer_size» = u16Of (x .bufferSize);
+  «rx_off_child_datagram_count» = u8Of (x .datagramCount);
+}
+
+pub connectivity-back : (x : Connectivity) → connectivityFrom (connectivityPaper x) ≡ x
+connectivity-back x = simp (u16-back, u8-back)
+
+pub connectivity-tells : Tells connectivityAnswer
+connectivity-tells =
+    tells connectivityAnswer (codeOf (λ (x : ConnectivityValue). y.Value (connectivityFrom x)) y.Absent y.Refused)
+    (elim [ y.Value x ↦ ap y.Value (connectivity-back x) | y.Absent ↦ refl | y.Refused x ↦ ap y.Refused (refusal-back x) ])

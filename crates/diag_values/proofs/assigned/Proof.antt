@@ -1,0 +1,31 @@
+-- `diag_values::assigned` meets its contract.
+-- Assumes nothing.
+use Rattle.diag_values.specs.Routes.{assigned}
+use mathlib.Core.Path.{refl}
+use borrow.Author.Needs.{needs}
+use Rattle.diag_values.proofs.assigned.Statement.{statement}
+use Rattle.diag_values.proofs.assigned.Tie as tie
+
+sub-shift : tie.Need-sub-shift
+sub-shift c = search needs
+
+cast-shift : tie.Need-cast-shift
+cast-shift c = search needs
+
+add-result : tie.Need-add-result
+add-result c = search needs
+
+shared-slice-read-result : tie.Need-shared-slice-read-result
+shared-slice-read-result c = search needs
+
+shr-result : tie.Need-shr-result
+shr-result c = search needs
+
+returns : tie.Need-returns
+unfolding assigned
+returns c = refl
+
+pub assigned-spec : {M : Type 1} → statement M
+assigned-spec =
+    tie.close
+    (tie.spec sub-shift cast-shift add-result shared-slice-read-result shr-result returns)

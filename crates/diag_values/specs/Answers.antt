@@ -1,0 +1,119 @@
+-- The code's answers, on paper.
+-- Assumes nothing.
+use Prim.Native.Nat.{ℕ}
+use mathlib.Core.List.{List}
+use Rattle.refusal.specs.Answer.{Answer, given, absent, onGiven}
+use Rattle.refusal.specs.Number.{refusalAnswer}
+use Rattle.diag_values.specs.Values.{ConnectivityValue}
+use Rattle.diag_values.specs.Routes.{RouteRead, routed}
+use Rattle.diag_values.specs.Rows.{Part, part}
+use Rattle.diag_values.specs.declared.Judged.{Judged}
+use Rattle.diag_values.specs.declared.Judged.the-variants as j
+use Rattle.diag_values.specs.declared.OptU8.{OptU8}
+use Rattle.diag_values.specs.declared.OptU8.the-variants as o8
+use Rattle.diag_values.specs.declared.OptU16.{OptU16}
+use Rattle.diag_values.specs.declared.OptU16.the-variants as o16
+use Rattle.diag_values.specs.declared.Read8.{Read8}
+use Rattle.diag_values.specs.declared.Read8.the-variants as v8
+use Rattle.diag_values.specs.declared.ModeData.{ModeData}
+use Rattle.diag_values.specs.declared.ReadMode.{ReadMode}
+use Rattle.diag_values.specs.declared.ReadMode.the-variants as m
+use Rattle.diag_values.specs.declared.Connectivity.{Connectivity}
+use Rattle.diag_values.specs.declared.ReadConnectivity.{ReadConnectivity}
+use Rattle.diag_values.specs.declared.ReadConnectivity.the-variants as y
+use Rattle.diag_values.specs.declared.LeaderData.{LeaderData}
+use Rattle.diag_values.specs.declared.ReadLeaderData.{ReadLeaderData}
+use Rattle.diag_values.specs.declared.ReadLeaderData.the-variants as l
+use Rattle.diag_values.specs.declared.MacCounters.{MacCounters}
+use Rattle.diag_values.specs.declared.ReadMacCounters.{ReadMacCounters}
+use Rattle.diag_values.specs.declared.ReadMacCounters.the-variants as k
+use Rattle.diag_values.specs.declared.ChildIpv6AddrInfo.{ChildIpv6AddrInfo}
+use Rattle.diag_values.specs.declared.ReadAddressList.{ReadAddressList}
+use Rattle.diag_values.specs.declared.ReadAddressList.the-variants as a
+use Rattle.diag_values.specs.declared.ReadRoute64.{ReadRoute64}
+use Rattle.diag_values.specs.declared.RouteDataEntry.{RouteDataEntry}
+use Rattle.diag_values.specs.declared.ReadRoute.{ReadRoute}
+use Rattle.diag_values.specs.declared.ReadRoute.the-variants as r
+use Rattle.diag_values.specs.declared.ChildTableEntry.{ChildTableEntry}
+use Rattle.diag_values.specs.declared.ReadChild.{ReadChild}
+use Rattle.diag_values.specs.declared.ReadChild.the-variants as c
+use Rattle.diag_values.specs.declared.ReadPart.{ReadPart}
+use Rattle.diag_values.specs.declared.ReadPart.the-variants as p
+
+-- a value that may be read, with nothing said of what it is
+abbrev pub judgedAnswer : Judged → Answer (Unit {0})
+judgedAnswer j.Kept = given tt
+judgedAnswer (j.Refused x) = refusalAnswer x
+
+abbrev pub judged : Answer (List ℕ) → Answer (Unit {0})
+judged a = onGiven (λ (v : List ℕ). tt) a
+
+-- a field that may be missing
+abbrev pub optAnswer8 : OptU8 → Answer ℕ
+optAnswer8 (o8.Some x) = given x
+optAnswer8 o8.None = absent
+
+abbrev pub optAnswer16 : OptU16 → Answer ℕ
+optAnswer16 (o16.Some x) = given x
+optAnswer16 o16.None = absent
+
+abbrev pub answer8 : Read8 → Answer ℕ
+answer8 (v8.Value x) = given x
+answer8 v8.Absent = absent
+answer8 (v8.Refused x) = refusalAnswer x
+
+abbrev pub modeAnswer : ReadMode → Answer ModeData
+modeAnswer (m.Value x) = given x
+modeAnswer m.Absent = absent
+modeAnswer (m.Refused x) = refusalAnswer x
+
+abbrev pub connectivityPaper : Connectivity → ConnectivityValue
+connectivityPaper x = record {
+  parentPriority = x .«parent_priority»;
+  linkQuality3 = x .«link_quality_3»;
+  linkQuality2 = x .«link_quality_2»;
+  linkQuality1 = x .«link_quality_1»;
+  leaderCost = x .«leader_cost»;
+  idSequence = x .«id_sequence»;
+  activeRouters = x .«active_routers»;
+  bufferSize = optAnswer16 (x .«rx_off_child_buffer_size»);
+  datagramCount = optAnswer8 (x .«rx_off_child_datagram_count»);
+}
+
+abbrev pub connectivityAnswer : ReadConnectivity → Answer ConnectivityValue
+connectivityAnswer (y.Value x) = given (connectivityPaper x)
+connectivityAnswer y.Absent = absent
+connectivityAnswer (y.Refused x) = refusalAnswer x
+
+abbrev pub leaderAnswer : ReadLeaderData → Answer LeaderData
+leaderAnswer (l.Value x) = given x
+leaderAnswer l.Absent = absent
+leaderAnswer (l.Refused x) = refusalAnswer x
+
+abbrev pub countersAnswer : ReadMacCounters → Answer MacCounters
+countersAnswer (k.Value x) = given x
+countersAnswer k.Absent = absent
+countersAnswer (k.Refused x) = refusalAnswer x
+
+abbrev pub addressListAnswer : ReadAddressList → Answer ChildIpv6AddrInfo
+addressListAnswer (a.Value x) = given x
+addressListAnswer a.Absent = absent
+addressListAnswer (a.Refused x) = refusalAnswer x
+
+abbrev pub routeRead : ReadRoute64 → RouteRead
+routeRead x = routed (judgedAnswer (x .answer)) (x .route)
+
+abbrev pub routeAnswer : ReadRoute → Answer RouteDataEntry
+routeAnswer (r.Value x) = given x
+routeAnswer r.Absent = absent
+routeAnswer (r.Refused x) = refusalAnswer x
+
+abbrev pub childAnswer : ReadChild → Answer ChildTableEntry
+childAnswer (c.Value x) = given x
+childAnswer c.Absent = absent
+childAnswer (c.Refused x) = refusalAnswer x
+
+abbrev pub partAnswer : ReadPart → Answer Part
+partAnswer (p.Part a n) = given (part a n)
+partAnswer p.Absent = absent
+partAnswer (p.Refused x) = refusalAnswer x

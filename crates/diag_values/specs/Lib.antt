@@ -1,0 +1,5 @@
+pub mod Values
+pub mod Routes
+pub mod Rule
+pub mod Rows
+pub mod Answers

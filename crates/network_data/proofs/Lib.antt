@@ -1,0 +1,13 @@
+pub mod Walks
+pub mod Shifts
+pub mod Passes
+pub mod Counted
+pub mod Seeks
+pub mod Chains
+pub mod Rowed
+pub mod Numbers
+pub mod Plans
+pub mod Agree
+pub mod Anywhere
+pub mod Papers
+pub mod Bench

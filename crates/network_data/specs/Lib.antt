@@ -1,0 +1,10 @@
+pub mod Frame
+pub mod Walk
+pub mod Walker
+pub mod Rules
+pub mod Decode
+pub mod Numbered
+pub mod Answers
+pub mod Cursor
+pub mod Tables
+pub mod Planned

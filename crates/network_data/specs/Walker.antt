@@ -1,0 +1,58 @@
+-- What the walker comes by. Document 01: "The sub-TLV walker keeps the bytes still to be read, as `NetworkDataTlvIter` does; empty after a cut."
+-- Assumes nothing.
+use Prim.Native.Nat.{ℕ, zero, suc}
+use mathlib.Core.List.{List, [], _∷_, map}
+use lib.ListN.{length, take, drop}
+use lib.Dec.{ltb}
+use Rattle.refusal.specs.Sizes.{mostBytes}
+use Rattle.refusal.specs.Answer.{pick, Answer, given, refused}
+use Rattle.network_data.specs.Frame.{subIn, restOf}
+use Rattle.network_data.specs.Walk.{Piece, Stop, clean, short, Walk, walkIn}
+use Rattle.network_data.specs.declared.SubTlv.{SubTlv}
+use Rattle.network_data.specs.declared.SubTlv.the-variants.{Item, Cut, End}
+
+-- a TLV without its place
+pub record Tlv : Type 0 where
+  pub ty : ℕ
+  pub value : List ℕ
+
+abbrev pub tlv : (ty : ℕ) → (value : List ℕ) → Tlv
+tlv t v = record { ty = t; value = v }
+
+-- TLVs in order, and how they end
+pub record Came : Type 0 where
+  pub tlvs : List Tlv
+  pub stop : Stop
+
+abbrev pub came : List Tlv → Stop → Came
+came l x = record { tlvs = l; stop = x }
+
+-- what the walker finds in s, and then what it comes by with what is left
+unfoldable pub finds : List ℕ → SubTlv → Came → Came
+finds s End next = came [] clean
+finds s Cut next = came [] short
+finds s (Item t a n) next = came (tlv t (take n (drop a s)) ∷ next .tlvs) (next .stop)
+
+-- what it comes by with the bytes s still to be read, in at most so many steps
+unfoldable pub comesBy : (fuel : ℕ) → List ℕ → Came
+comesBy zero s = came [] clean
+comesBy (suc k) s = finds s (subIn s 0 (length s)) (comesBy k (restOf s))
+
+-- the same of the definition's TLVs
+abbrev pub tlvAt : List ℕ → Piece → Tlv
+tlvAt s e = tlv (e .ty) (take (e .len) (drop (e .start) s))
+
+abbrev pub cameOf : List ℕ → Walk → Came
+cameOf s w = came (map (tlvAt s) (w .items)) (w .stop)
+
+-- how many TLVs there are: 5 where one of them is cut short
+unfoldable pub tallied : ℕ → Stop → Answer ℕ
+tallied n clean = given n
+tallied n short = refused 5 0 0
+
+abbrev pub tlvsOf : Walk → Answer ℕ
+tlvsOf w = tallied (length (w .items)) (w .stop)
+
+-- those of a bare value: 1, then 5
+unfoldable pub tlvCount : List ℕ → Answer ℕ
+tlvCount s = pick (ltb mostBytes (length s)) (refused 1 0 0) (tlvsOf (walkIn s 0 (length s)))

@@ -1,0 +1,139 @@
+-- One possible answer for each public call of `dataset`: each line is the call's own promise.
+-- Assumes nothing.
+use mathlib.Core.List.{List}
+use mathlib.Core.Path.{_≡_}
+use Prim.Native.Nat.{ℕ}
+use Rattle.dataset.proofs.Papers.{checked-tells, copy16-tells, copy8-tells}
+use Rattle.dataset.specs.Answers.{checked, checkedAnswer, copied, copy16, copy8}
+use Rattle.dataset.specs.Edits.{fromHex, hexOf}
+use Rattle.dataset.specs.Queries.{maskCount, maskEntry, nameAt, nameEntry, query, sizedValue}
+use Rattle.dataset.specs.declared.Array16.{Array16}
+use Rattle.dataset.specs.declared.Array8.{Array8}
+use Rattle.dataset.specs.declared.Checked.{Checked}
+use Rattle.refusal.proofs.Papers.{written-tells}
+use Rattle.refusal.specs.Answer.{onGiven}
+use Rattle.refusal.specs.Output.{emit, output, writtenAnswer}
+use Rattle.refusal.specs.declared.Written.{Written}
+use Rattle.tlv.proofs.Papers.{found-tells}
+use Rattle.tlv.specs.Answers.{foundAnswer}
+use Rattle.tlv.specs.Encode.{rewritten, withSet}
+use Rattle.tlv.specs.Last.{lastSpot, lastValue, spot, valueOr}
+use Rattle.tlv.specs.declared.Choice.the-variants.{All, Without}
+use Rattle.tlv.specs.declared.Found.{Found}
+use Rattle.values.proofs.Papers.{channel-tells, mask-tells, policy-tells, timestamp-tells}
+use Rattle.values.specs.Mask.{maskAnswer}
+use Rattle.values.specs.Typed.{channelAnswer, channelOf, policyAnswer, policyOf, timestampAnswer, timestampOf}
+use Rattle.values.specs.declared.ReadChannel.{ReadChannel}
+use Rattle.values.specs.declared.ReadMask.{ReadMask}
+use Rattle.values.specs.declared.ReadPolicy.{ReadPolicy}
+use Rattle.values.specs.declared.ReadTimestamp.{ReadTimestamp}
+use Rattle.wire.proofs.Papers.{read16-tells, read32-tells}
+use Rattle.wire.specs.Be.{answer16, answer32, be, ruled}
+use Rattle.wire.specs.declared.Read16.{Read16}
+use Rattle.wire.specs.declared.Read32.{Read32}
+use Rattle.one_answer.specs.One.{Leaves, One}
+use Rattle.one_answer.proofs.General.{leaves, one, one-itself}
+
+-- dataset::read_array_8
+pub read-array-8 : (value : List ℕ) (place : ℕ) → One (λ (r : Array8). copy8 r ≡ copied 8 (ruled 8 place value))
+read-array-8 value place = one copy8 copy8-tells _
+
+-- dataset::read_array_16
+pub read-array-16 : (value : List ℕ) (place : ℕ) → One (λ (r : Array16). copy16 r ≡ copied 16 (ruled 16 place value))
+read-array-16 value place = one copy16 copy16-tells _
+
+-- dataset::check_bytes
+pub check-bytes : (value : List ℕ) → One (λ (r : Checked). checkedAnswer r ≡ checked (sizedValue value))
+check-bytes value = one checkedAnswer checked-tells _
+
+-- dataset::check_name
+pub check-name : (value : List ℕ) (place : ℕ) → One (λ (r : Checked). checkedAnswer r ≡ checked (nameAt place value))
+check-name value place = one checkedAnswer checked-tells _
+
+-- dataset::raw
+pub raw : (s : List ℕ) (ty : ℕ) → One (λ (r : Found). foundAnswer r ≡ lastSpot ty 0 s)
+raw s ty = one foundAnswer found-tells _
+
+-- dataset::raw_value
+pub raw-value : (s : List ℕ) (ty : ℕ) → One (λ (r : List ℕ). r ≡ lastValue ty s)
+raw-value s ty = one-itself _
+
+-- dataset::pskc
+pub pskc : (s : List ℕ) → One (λ (r : Found). foundAnswer r ≡ lastSpot 4 0 s)
+pskc s = one foundAnswer found-tells _
+
+-- dataset::pskc_value
+pub pskc-value : (s : List ℕ) → One (λ (r : List ℕ). r ≡ lastValue 4 s)
+pskc-value s = one-itself _
+
+-- dataset::network_name
+pub network-name : (s : List ℕ) → One (λ (r : Found). foundAnswer r ≡ onGiven spot (nameEntry s))
+network-name s = one foundAnswer found-tells _
+
+-- dataset::network_name_value
+pub network-name-value : (s : List ℕ) → One (λ (r : List ℕ). r ≡ valueOr (nameEntry s))
+network-name-value s = one-itself _
+
+-- dataset::channel
+pub channel : (s : List ℕ) → One (λ (r : ReadChannel). channelAnswer r ≡ query 0 channelOf s)
+channel s = one channelAnswer channel-tells _
+
+-- dataset::pan_id
+pub pan-id : (s : List ℕ) → One (λ (r : Read16). answer16 r ≡ query 1 be s)
+pan-id s = one answer16 read16-tells _
+
+-- dataset::delay_timer
+pub delay-timer : (s : List ℕ) → One (λ (r : Read32). answer32 r ≡ query 52 be s)
+delay-timer s = one answer32 read32-tells _
+
+-- dataset::active_timestamp
+pub active-timestamp : (s : List ℕ) → One (λ (r : ReadTimestamp). timestampAnswer r ≡ query 14 timestampOf s)
+active-timestamp s = one timestampAnswer timestamp-tells _
+
+-- dataset::pending_timestamp
+pub pending-timestamp : (s : List ℕ) → One (λ (r : ReadTimestamp). timestampAnswer r ≡ query 51 timestampOf s)
+pending-timestamp s = one timestampAnswer timestamp-tells _
+
+-- dataset::security_policy
+pub security-policy : (s : List ℕ) → One (λ (r : ReadPolicy). policyAnswer r ≡ query 12 policyOf s)
+security-policy s = one policyAnswer policy-tells _
+
+-- dataset::extended_pan_id
+pub extended-pan-id : (s : List ℕ) → One (λ (r : Array8). copy8 r ≡ copied 8 (query 2 (λ (v : List ℕ). v) s))
+extended-pan-id s = one copy8 copy8-tells _
+
+-- dataset::mesh_local_prefix
+pub mesh-local-prefix : (s : List ℕ) → One (λ (r : Array8). copy8 r ≡ copied 8 (query 7 (λ (v : List ℕ). v) s))
+mesh-local-prefix s = one copy8 copy8-tells _
+
+-- dataset::network_key
+pub network-key : (s : List ℕ) → One (λ (r : Array16). copy16 r ≡ copied 16 (query 5 (λ (v : List ℕ). v) s))
+network-key s = one copy16 copy16-tells _
+
+-- dataset::channel_mask
+pub channel-mask : (s : List ℕ) → One (λ (r : ReadMask). maskAnswer r ≡ maskCount s)
+channel-mask s = one maskAnswer mask-tells _
+
+-- dataset::channel_mask_value
+pub channel-mask-value : (s : List ℕ) → One (λ (r : List ℕ). r ≡ valueOr (maskEntry s))
+channel-mask-value s = one-itself _
+
+-- dataset::set_raw
+pub set-raw : (s : List ℕ) (ty : ℕ) (value : List ℕ) (out : List ℕ) → Leaves (λ (r : Written) (left : List ℕ). output (writtenAnswer r) left ≡ emit (withSet ty value s) out)
+set-raw s ty value out = leaves writtenAnswer written-tells _
+
+-- dataset::remove_all
+pub remove-all : (s : List ℕ) (ty : ℕ) (out : List ℕ) → Leaves (λ (r : Written) (left : List ℕ). output (writtenAnswer r) left ≡ emit (rewritten (Without ty) s) out)
+remove-all s ty out = leaves writtenAnswer written-tells _
+
+-- dataset::to_bytes
+pub to-bytes : (s : List ℕ) (out : List ℕ) → Leaves (λ (r : Written) (left : List ℕ). output (writtenAnswer r) left ≡ emit (rewritten All s) out)
+to-bytes s out = leaves writtenAnswer written-tells _
+
+-- dataset::to_hex
+pub to-hex : (s : List ℕ) (out : List ℕ) → Leaves (λ (r : Written) (left : List ℕ). output (writtenAnswer r) left ≡ emit (hexOf s) out)
+to-hex s out = leaves writtenAnswer written-tells _
+
+-- dataset::from_hex
+pub from-hex : (text : List ℕ) (out : List ℕ) → Leaves (λ (r : Written) (left : List ℕ). output (writtenAnswer r) left ≡ emit (fromHex text) out)
+from-hex text out = leaves writtenAnswer written-tells _

@@ -1,0 +1,15 @@
+pub mod General
+pub mod Refusal
+pub mod Wire
+pub mod Tlv
+pub mod Base16
+pub mod Utf8
+pub mod Values
+pub mod Dataset
+pub mod Changes
+pub mod Delay
+pub mod NetworkData
+pub mod DiagValues
+pub mod Diag
+pub mod Pairing
+pub mod Listing

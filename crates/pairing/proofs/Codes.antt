@@ -1,0 +1,113 @@
+-- The numbers that `pair` writes say what was said: no list has the number of one of the two other answers, since a payload has few entries.
+-- Assumes nothing.
+use mathlib.Core.Path.{_≡_, refl, sym, ap, _∙_, subst}
+use mathlib.Core.List.{List, [], _∷_, map}
+use Prim.Native.Nat.{ℕ, _≤_, _<_}
+use native.Mathlib.Omega.{arith}
+use lib.Dec.{eqb, ltb}
+use lib.ListN.{length, length-map}
+use borrow.Author.Tests.{ne-eqb, ltb-false}
+use Rattle.refusal.specs.Sizes.{mostBytes, mostEntries}
+use Rattle.refusal.specs.Answer.{Answer, given, absent, refused, thenDo, onGiven}
+use Rattle.refusal.specs.Every.{Every}
+use Rattle.laws.proofs.Tests.{pick-all}
+use Rattle.tlv.specs.Entries.{Entry, Stop, clean, cutAt, framing}
+use Rattle.tlv.specs.Limits.{limited, framed}
+use Rattle.tlv.proofs.Tally.{only}
+use Rattle.diag_values.specs.Rows.{nth}
+use Rattle.diag.specs.Parts.{allOf}
+use Rattle.diag.specs.Checked.{checked}
+use Rattle.diag.specs.Diag.{AddressList, addressList, addressLists}
+use Rattle.diag.proofs.Checks.{checked-given}
+use Rattle.pairing.specs.Pairing.{codeNone, codeUnclear, pairing, codeOf, meant}
+use Rattle.pairing.specs.Payload.{rowIds, listIds, pairings, paired, codes, rowPairing}
+use Rattle.pairing.specs.declared.Pairing.{Pairing}
+use Rattle.pairing.specs.declared.Pairing.the-variants as p
+use Rattle.pairing.proofs.Rowed.{nth-map}
+use Rattle.pairing.proofs.Sense.{paired-is}
+use Rattle.pairing.proofs.Payloads.{framed-by}
+
+-- ---- a pair whose list has a small number
+abbrev Below : ℕ → Pairing → Type 0
+Below n (p.Paired k) = k < n
+Below n p.None = Unit {0}
+Below n p.Unclear = Unit {0}
+
+pub code-back : (x : Pairing) → Below codeUnclear x → meant (codeOf x) ≡ x
+unfolding meant
+code-back (p.Paired k) h = rw (ne-eqb k codeNone (λ e. omega arith), ne-eqb k codeUnclear (λ e. omega arith))
+code-back p.None h = refl
+code-back p.Unclear h = refl
+
+codes-back : (xs : List Pairing) → Every (Below codeUnclear) xs → map meant (map codeOf xs) ≡ xs
+codes-back [] h = refl
+codes-back (x ∷ xs) h = ap (λ (y : Pairing). y ∷ map meant (map codeOf xs)) (code-back x (h .0)) ∙ ap (_∷_ x) (codes-back xs (h .1))
+
+-- ---- the lists of a payload are no more than its entries, and those are few
+few-lists : (es : List Entry) → length (allOf 30 es) ≤ length es
+unfolding allOf
+few-lists [] = omega arith
+few-lists (e ∷ es) =
+    pick-all (λ (l : List Entry). length l ≤ length (e ∷ es)) (eqb (e .ty) 30) (e ∷ allOf 30 es) (allOf 30 es)
+    (λ t. omega (arith, few-lists es)) (λ t. omega (arith, few-lists es))
+
+abbrev Few : Answer (List Entry) → Type 0
+Few (given es) = length es ≤ mostEntries
+Few absent = Unit {0}
+Few (refused n p i) = Unit {0}
+
+limited-few : (st : Stop) (es : List Entry) → Few (limited 0 st es)
+unfolding limited
+limited-few (cutAt p) es = tt
+limited-few clean es = pick-all Few (ltb mostEntries (length es)) _ (given es) (λ e. tt) (λ e. ltb-false _ _ e)
+
+framed-few : (s : List ℕ) → Few (framed 0 s)
+unfolding framed
+framed-few s = pick-all Few (ltb mostBytes (length s)) (refused 1 0 0) _ (λ e. tt) (λ e. limited-few (framing s .stop) (framing s .entries))
+
+few-entries : (s : List ℕ) → checked s ≡ given (framing s .entries) → length (framing s .entries) ≤ mostEntries
+unfolding checked
+few-entries s is = subst Few (framed-by (framing s .entries) (framing s .entries) (framed 0 s) (only 0 s) is) (framed-few s)
+
+-- ---- so every pair has a list of a small number
+below-by : (rows lists : List ℕ) (id : ℕ) → length lists ≤ codeUnclear → Below codeUnclear (pairing rows lists id)
+below-by rows lists id few = by-answer (pairing rows lists id) refl
+  where
+    by-answer : (x : Pairing) → pairing rows lists id ≡ x → Below codeUnclear x
+    by-answer (p.Paired k) e = let low = paired-is rows lists id k e .number in omega arith
+    by-answer p.None e = tt
+    by-answer p.Unclear e = tt
+
+all-below : (rows lists ids : List ℕ) → length lists ≤ codeUnclear → Every (Below codeUnclear) (map (pairing rows lists) ids)
+all-below rows lists [] few = tt
+all-below rows lists (id ∷ ids) few = (below-by rows lists id few, all-below rows lists ids few)
+
+lists-below : (es : List Entry) → length es ≤ mostEntries → length (listIds es) ≤ codeUnclear
+unfolding listIds addressLists
+lists-below es h = omega (arith, length-map (addressLists es) (λ (l : AddressList). l .childId), length-map (allOf 30 es) addressList, few-lists es)
+
+-- THE CODES of a payload mean its pairings
+pub codes-mean : (s : List ℕ) → onGiven (λ (cs : List ℕ). map meant cs) (codes s) ≡ paired s
+unfolding codes paired pairings
+codes-mean s = by-check (checked s) refl
+  where
+    by-check : (a : Answer (List Entry)) → checked s ≡ a
+        → onGiven (λ (cs : List ℕ). map meant cs) (onGiven (λ (ps : List Pairing). map codeOf ps) (onGiven pairings a)) ≡ onGiven pairings a
+    by-check (given es) e =
+        let all = checked-given s (length es) (sym (ap (onGiven length) e)) .0 in
+        let same : framing s .entries ≡ es = let both = sym all ∙ e in cc in
+        let few = rw same at (few-entries s all) in
+        ap given (codes-back (pairings es) (all-below (rowIds es) (listIds es) (rowIds es) (lists-below es few)))
+    by-check absent e = refl
+    by-check (refused n q i) e = refl
+
+-- and the number that stands for row k is the one for what `pair_row` says of it
+pub code-of-row : (s : List ℕ) (k : ℕ) → thenDo (codes s) (λ (cs : List ℕ). nth cs k) ≡ onGiven codeOf (rowPairing k s)
+unfolding codes rowPairing
+code-of-row s k = by-answer (paired s)
+  where
+    by-answer : (a : Answer (List Pairing))
+        → thenDo (onGiven (λ (ps : List Pairing). map codeOf ps) a) (λ (cs : List ℕ). nth cs k) ≡ onGiven codeOf (thenDo a (λ (ps : List Pairing). nth ps k))
+    by-answer (given ps) = nth-map codeOf ps k
+    by-answer absent = refl
+    by-answer (refused n q i) = refl

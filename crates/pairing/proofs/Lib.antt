@@ -1,0 +1,9 @@
+pub mod Tallies
+pub mod Rowed
+pub mod Sense
+pub mod Ids
+pub mod Payloads
+pub mod Meaning
+pub mod Codes
+pub mod Papers
+pub mod Lines

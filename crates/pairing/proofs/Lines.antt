@@ -1,0 +1,59 @@
+-- Worked lines of pairing, computed from the definitions.
+-- Assumes nothing.
+use mathlib.Core.Path.{_≡_, refl}
+use mathlib.Core.List.{List, [], _∷_}
+use Prim.Native.Nat.{ℕ}
+use Rattle.refusal.specs.Answer.{Answer, given, refused}
+use Rattle.refusal.specs.Every.{Every}
+use Rattle.refusal.specs.Output.{output, emit}
+use Rattle.wire.specs.Be.{beFrom, be}
+use Rattle.tlv.specs.Entries.{valued, first, step, frames, framing}
+use Rattle.tlv.specs.Limits.{limited, framed}
+use Rattle.tlv.specs.Last.{lastOf}
+use Rattle.diag_values.specs.Rule.{keepsRule, valueOf}
+use Rattle.diag_values.specs.Rows.{listed, childRows}
+use Rattle.diag.specs.Parts.{allOf}
+use Rattle.diag.specs.Checked.{entryValue, decoding, checked}
+use Rattle.diag.specs.Diag.{addressLists}
+use Rattle.pairing.specs.Pairing.{occurs, placeOf, pairing, codeNone, codeUnclear}
+use Rattle.pairing.specs.Payload.{rowIds, listIds, pairings, paired, codes}
+
+-- an answer, and what it must be
+abbrev pub Line : Type 0
+Line = Answer (List ℕ) × Answer (List ℕ)
+
+-- a table of one row, child 1, and address lists of child 1 under parents 10 and 11
+abbrev pub row : List ℕ → List ℕ
+row rest = 0x10 ∷ 0x03 ∷ 0x00 ∷ 0x01 ∷ 0x00 ∷ rest
+
+abbrev pub list10 : List ℕ → List ℕ
+list10 rest = 0x1e ∷ 0x02 ∷ 0x28 ∷ 0x01 ∷ rest
+
+abbrev pub list11 : List ℕ → List ℕ
+list11 rest = 0x1e ∷ 0x02 ∷ 0x2c ∷ 0x01 ∷ rest
+
+abbrev pub lines : List Line
+lines =
+    -- a battery level of no bytes, which pairing does not use, is refused as the decode refuses it
+    (codes (0x0e ∷ 0x00 ∷ []), refused 4 0 0)
+    -- twice in the table and in no list; once in the table and in two lists
+    ∷ (codes (0x10 ∷ 0x06 ∷ 0x00 ∷ 0x01 ∷ 0x00 ∷ 0x00 ∷ 0x01 ∷ 0x00 ∷ []), given (codeUnclear ∷ codeUnclear ∷ []))
+    ∷ (codes (row (list10 (list11 []))), given (codeUnclear ∷ []))
+    -- the last table counts, here one without rows; the lists are numbered from 0, whatever their child IDs
+    ∷ (codes (row (0x10 ∷ 0x00 ∷ list10 [])), given [])
+    ∷ (codes (0x1e ∷ 0x02 ∷ 0x28 ∷ 0x02 ∷ row []), given (codeNone ∷ []))
+    ∷ (codes (0x1e ∷ 0x02 ∷ 0x28 ∷ 0x02 ∷ row (list10 [])), given (1 ∷ []))
+    -- bit 9 of an RLOC16 is no part of the child ID
+    ∷ (codes (row (0x1e ∷ 0x02 ∷ 0x2a ∷ 0x01 ∷ [])), given (0 ∷ []))
+    ∷ []
+
+pub worked : Every (λ (l : Line). l .0 ≡ l .1) lines
+unfolding codes paired pairings pairing occurs placeOf rowIds listIds addressLists allOf childRows listed be beFrom lastOf checked decoding entryValue
+    valueOf keepsRule framed limited framing frames step first valued
+worked = (refl, (refl, (refl, (refl, (refl, (refl, (refl, tt)))))))
+
+-- and no room for the one answer
+pub no-room : emit (codes (row [])) [] ≡ output (refused 11 0 0) []
+unfolding emit codes paired pairings pairing occurs placeOf rowIds listIds addressLists allOf childRows listed be beFrom lastOf checked decoding
+    entryValue valueOf keepsRule framed limited framing frames step first valued
+no-room = refl

@@ -1,0 +1,134 @@
+-- What the pairing of a child ID says, and what it depends on.
+-- Assumes nothing.
+use mathlib.Core.Path.{_≡_, refl, ap, _∙_}
+use mathlib.Core.List.{List, [], _∷_}
+use Prim.Native.Nat.{ℕ, zero, suc, _+_, _≤_, _<_}
+use native.Mathlib.Omega.{arith}
+use native.Mathlib.Nat.{zero-add}
+use lib.Dec.{eqb}
+use lib.ListN.{length}
+use borrow.Author.Tests.{eq-eqb, ne-eqb, eqb-true}
+use Rattle.refusal.specs.Answer.{given}
+use Rattle.laws.proofs.Tests.{by-test}
+use Rattle.diag_values.specs.Rows.{nth}
+use Rattle.pairing.specs.Pairing.{occurs, placeOf, pairing}
+use Rattle.pairing.specs.Loops.{lastPlace, judged}
+use Rattle.pairing.specs.declared.Pairing.{Pairing}
+use Rattle.pairing.specs.declared.Pairing.the-variants as p
+
+-- ---- by the counts
+module _ (rows lists : List ℕ) (id : ℕ) where
+  pub is-paired : occurs id rows ≡ 1 → occurs id lists ≡ 1 → pairing rows lists id ≡ p.Paired (placeOf id lists)
+  unfolding pairing
+  is-paired h k = rw (h, k)
+
+  pub is-none : occurs id rows ≡ 1 → occurs id lists ≡ 0 → pairing rows lists id ≡ p.None
+  unfolding pairing
+  is-none h k = rw (h, k)
+
+  pub is-unclear : (occurs id rows ≡ 1 → ⊥) → pairing rows lists id ≡ p.Unclear
+  unfolding pairing
+  is-unclear h = rw (ne-eqb _ _ h)
+
+-- ---- where x stands
+place-by : (x : ℕ) (ys : List ℕ) → 1 ≤ occurs x ys → nth ys (placeOf x ys) ≡ given x
+unfolding occurs placeOf nth
+place-by x [] h = absurd (omega arith)
+place-by x (y ∷ ys) h = by-test (eqb y x) (λ e. rw e (ap given (eqb-true y x e))) (λ e. rw e (place-by x ys (rw e at h)))
+
+place-low : (x : ℕ) (ys : List ℕ) → 1 ≤ occurs x ys → placeOf x ys < length ys
+unfolding occurs placeOf
+place-low x [] h = absurd (omega arith)
+place-low x (y ∷ ys) h = by-test (eqb y x) (λ e. rw e (omega arith)) (λ e. rw e (omega (arith, place-low x ys (rw e at h))))
+
+-- the last place is the only one
+last-not : (x best n : ℕ) (ys : List ℕ) → occurs x ys ≡ 0 → lastPlace x best n ys ≡ best
+unfolding occurs lastPlace
+last-not x best n [] h = refl
+last-not x best n (y ∷ ys) h =
+    by-test (eqb y x)
+    (λ e. absurd (let z : suc (occurs x ys) ≡ 0 = rw e at h in omega arith))
+    (λ e. rw e (last-not x best (n + 1) ys (rw e at h)))
+
+last-only : (x best n : ℕ) (ys : List ℕ) → occurs x ys ≡ 1 → lastPlace x best n ys ≡ n + placeOf x ys
+unfolding occurs lastPlace placeOf
+last-only x best n [] h = absurd (omega arith)
+last-only x best n (y ∷ ys) h =
+    by-test (eqb y x)
+    (λ e. let z : suc (occurs x ys) ≡ 1 = rw e at h in rw e (last-not x n (n + 1) ys (omega arith) ∙ omega arith))
+    (λ e. rw e (last-only x best (n + 1) ys (rw e at h) ∙ omega arith))
+
+-- ---- what an answer says
+apart : {G : Type 0} (x y : Pairing) → (x ≡ y → _≡_ {A = ℕ} 0 1) → x ≡ y → G
+apart x y never e = absurd (let z = never e in omega arith)
+
+-- "paired with k": the ID stands once in the table and once among the lists, and list k is where
+pub record Pair (rows lists : List ℕ) (id k : ℕ) : Type 0 where
+  pub onceInTable : occurs id rows ≡ 1
+  pub onceAmongLists : occurs id lists ≡ 1
+  pub there : nth lists k ≡ given id
+  pub number : k < length lists
+
+module _ (rows lists : List ℕ) (id : ℕ) where
+  pub paired-is : (k : ℕ) → pairing rows lists id ≡ p.Paired k → Pair rows lists id k
+  unfolding pairing
+  paired-is k h =
+      by-test (eqb (occurs id rows) 1)
+      (λ a. by-test (eqb (occurs id lists) 1)
+      (λ b. let same : p.Paired (placeOf id lists) ≡ p.Paired k = rw (a, b) at h in
+      let here : placeOf id lists ≡ k = cc in
+      let one = eqb-true _ _ b in
+      record {
+        onceInTable = eqb-true _ _ a;
+        onceAmongLists = one;
+        there = rw (← here) (place-by id lists (omega arith));
+        number = rw (← here) (place-low id lists (omega arith));
+      })
+      (λ b. by-test (eqb (occurs id lists) 0)
+      (λ e. apart p.None (p.Paired k) (λ z. cc) (rw (a, b, e) at h))
+      (λ e. apart p.Unclear (p.Paired k) (λ z. cc) (rw (a, b, e) at h))))
+      (λ a. apart p.Unclear (p.Paired k) (λ z. cc) (rw a at h))
+
+  -- "none": it stands once in the table and in no list
+  pub none-is : pairing rows lists id ≡ p.None → (occurs id rows ≡ 1) × (occurs id lists ≡ 0)
+  unfolding pairing
+  none-is h =
+      by-test (eqb (occurs id rows) 1)
+      (λ a. by-test (eqb (occurs id lists) 1)
+      (λ b. apart (p.Paired (placeOf id lists)) p.None (λ z. cc) (rw (a, b) at h))
+      (λ b. by-test (eqb (occurs id lists) 0)
+      (λ e. (eqb-true _ _ a, eqb-true _ _ e))
+      (λ e. apart p.Unclear p.None (λ z. cc) (rw (a, b, e) at h))))
+      (λ a. apart p.Unclear p.None (λ z. cc) (rw a at h))
+
+-- ---- the order of the rows is nothing to it: only how often each ID stands among them
+pub rows-in-any-order : (rows other lists : List ℕ) (id : ℕ) → occurs id rows ≡ occurs id other → pairing rows lists id ≡ pairing other lists id
+unfolding pairing
+rows-in-any-order rows other lists id e = rw e
+
+-- ---- the counts of the code
+pub judged-is : (rows lists : List ℕ) (id : ℕ) → judged (occurs id rows) (occurs id lists) (lastPlace id 0 0 lists) ≡ pairing rows lists id
+unfolding judged pairing
+judged-is rows lists id =
+    by-test (eqb (occurs id lists) 1)
+    (λ e. rw (last-only id 0 0 lists (eqb-true _ _ e)) (rw zero-add))
+    (λ e. rw e)
+
+-- ---- two places
+occurs-some : (x : ℕ) (ys : List ℕ) (i : ℕ) → nth ys i ≡ given x → 1 ≤ occurs x ys
+unfolding occurs nth
+occurs-some x [] i h = absurd (let z : _≡_ {A = ℕ} 0 1 = cc in omega arith)
+occurs-some x (y ∷ ys) zero h = let same : y ≡ x = cc in rw (eq-eqb y x same) (omega arith)
+occurs-some x (y ∷ ys) (suc i) h =
+    let more = occurs-some x ys i h in
+    by-test (eqb y x) (λ e. rw e (omega arith)) (λ e. rw e more)
+
+pub occurs-twice : (x : ℕ) (ys : List ℕ) (i j : ℕ) → (i ≡ j → ⊥) → nth ys i ≡ given x → nth ys j ≡ given x → 2 ≤ occurs x ys
+unfolding occurs nth
+occurs-twice x [] i j apart h k = absurd (let z : _≡_ {A = ℕ} 0 1 = cc in omega arith)
+occurs-twice x (y ∷ ys) zero zero apart h k = absurd (apart refl)
+occurs-twice x (y ∷ ys) zero (suc j) apart h k = let same : y ≡ x = cc in rw (eq-eqb y x same) (omega (arith, occurs-some x ys j k))
+occurs-twice x (y ∷ ys) (suc i) zero apart h k = let same : y ≡ x = cc in rw (eq-eqb y x same) (omega (arith, occurs-some x ys i h))
+occurs-twice x (y ∷ ys) (suc i) (suc j) apart h k =
+    let more = occurs-twice x ys i j (λ e. apart (ap suc e)) h k in
+    by-test (eqb y x) (λ e. rw e (omega arith)) (λ e. rw e more)

@@ -1,0 +1,4 @@
+pub mod Pairing
+pub mod Payload
+pub mod Answers
+pub mod Loops

@@ -1,0 +1,61 @@
+-- What the private functions promise: no public contract cites it.
+-- Assumes nothing.
+use mathlib.Core.Path.{_≡_}
+use Prim.Native.Nat.{ℕ, _+_, _/_, _<_}
+use mathlib.Core.List.{List, [], _∷_, map}
+use lib.ListN.{length, getD}
+use lib.Dec.{eqb}
+use Rattle.refusal.specs.Answer.{pick, Answer, given, absent, refused, thenDo, onGiven}
+use Rattle.tlv.specs.Entries.{Entry}
+use Rattle.diag_values.specs.Rule.{valueOf}
+use Rattle.diag_values.specs.Values.{addressListOf}
+use Rattle.diag_values.specs.Rows.{listed, nth, childRows}
+use Rattle.diag_values.specs.declared.ChildTableEntry.{ChildTableEntry}
+use Rattle.diag_values.specs.declared.ChildIpv6AddrInfo.{ChildIpv6AddrInfo}
+use Rattle.diag.specs.Parts.{allOf}
+use Rattle.pairing.specs.Pairing.{occurs, codeOf}
+use Rattle.pairing.specs.declared.Pairing.{Pairing}
+use Rattle.pairing.specs.declared.Pairing.the-variants as p
+
+-- ---- child IDs, 0 where a value is refused: that does not occur in a payload that was checked
+
+abbrev pub orZero : Answer ℕ → ℕ
+orZero (given x) = x
+orZero absent = 0
+orZero (refused n p i) = 0
+
+unfoldable pub rowIdAt : (table : List ℕ) → (k : ℕ) → ℕ
+rowIdAt v k = orZero (onGiven (λ (r : ChildTableEntry). r .«child_id») (thenDo (valueOf 16 0 v) (λ (w : List ℕ). nth (childRows w) k)))
+
+unfoldable pub rowsOf : (table : List ℕ) → List ℕ
+rowsOf v = listed (rowIdAt v) (length v / 3)
+
+unfoldable pub listIdOf : List ℕ → ℕ
+listIdOf v = orZero (onGiven (λ (x : ChildIpv6AddrInfo). x .«child_id») (onGiven addressListOf (valueOf 30 0 v)))
+
+unfoldable pub listsOf : List Entry → List ℕ
+listsOf es = map (λ (e : Entry). listIdOf (e .value)) (allOf 30 es)
+
+-- ---- tables by child ID
+
+-- the place of the last x in ys, the first of which has the place n; or best
+unfoldable pub lastPlace : ℕ → (best n : ℕ) → List ℕ → ℕ
+lastPlace x best n [] = best
+lastPlace x best n (y ∷ ys) = lastPlace x (pick (eqb y x) n best) (n + 1) ys
+
+-- for each child ID how often it stands in xs, and where it stands last
+pub record Counts (table xs : List ℕ) : Type 0 where
+  pub is : (i : ℕ) → i < 512 → getD table i 0 ≡ occurs i xs
+
+pub record Places (table xs : List ℕ) : Type 0 where
+  pub is : (i : ℕ) → i < 512 → getD table i 0 ≡ lastPlace i 0 0 xs
+
+-- what is said of a row by the counts of its child ID
+unfoldable pub judged : (rows lists place : ℕ) → Pairing
+judged rows lists place = pick (eqb rows 1) (pick (eqb lists 1) (p.Paired place) (pick (eqb lists 0) p.None p.Unclear)) p.Unclear
+
+abbrev pub codeBy : (rows count place : List ℕ) → (id : ℕ) → ℕ
+codeBy rows count place id = codeOf (judged (getD rows id 0) (getD count id 0) (getD place id 0))
+
+unfoldable pub codesBy : (rows count place ids : List ℕ) → List ℕ
+codesBy rows count place ids = map (codeBy rows count place) ids

@@ -1,0 +1,36 @@
+-- Pairing within one payload. Document 01: "One answer goes out for each row, in row order (no child table, no answers); a pair names the list, from 0."
+-- Assumes nothing.
+use Prim.Native.Nat.{ℕ}
+use mathlib.Core.List.{List, map}
+use Rattle.refusal.specs.Answer.{Answer, thenDo, onGiven}
+use Rattle.tlv.specs.Entries.{Entry}
+use Rattle.tlv.specs.Last.{valueOr}
+use Rattle.diag_values.specs.Rows.{childRows, nth}
+use Rattle.diag_values.specs.declared.ChildTableEntry.{ChildTableEntry}
+use Rattle.diag.specs.Parts.{last}
+use Rattle.diag.specs.Checked.{checked}
+use Rattle.diag.specs.Diag.{AddressList, addressLists}
+use Rattle.pairing.specs.Pairing.{pairing, codeOf}
+use Rattle.pairing.specs.declared.Pairing.{Pairing}
+
+-- the child IDs of the rows of the last child table (type 16): none where there is no table
+unfoldable pub rowIds : List Entry → List ℕ
+rowIds es = map (λ (r : ChildTableEntry). r .«child_id») (childRows (valueOr (last 16 es)))
+
+-- the child IDs of the address lists (type 30), in order
+unfoldable pub listIds : List Entry → List ℕ
+listIds es = map (λ (l : AddressList). l .childId) (addressLists es)
+
+-- what is said of each row
+unfoldable pub pairings : List Entry → List Pairing
+pairings es = map (pairing (rowIds es) (listIds es)) (rowIds es)
+
+-- the same of a payload, refused as its decode is; then in numbers; and of one row, from 0
+unfoldable pub paired : List ℕ → Answer (List Pairing)
+paired s = onGiven pairings (checked s)
+
+unfoldable pub codes : List ℕ → Answer (List ℕ)
+codes s = onGiven (λ (ps : List Pairing). map codeOf ps) (paired s)
+
+unfoldable pub rowPairing : (k : ℕ) → List ℕ → Answer Pairing
+rowPairing k s = thenDo (paired s) (λ (ps : List Pairing). nth ps k)

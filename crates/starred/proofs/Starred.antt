@@ -1,0 +1,29 @@
+-- Every starred line of the bench sheet holds of the definitions, by one test that computes over the table.
+-- Assumes nothing.
+use Rattle.refusal.specs.Every.{Every}
+use Rattle.wire.specs.Be.{beFrom, be, bytesOf}
+use Rattle.tlv.specs.Entries.{valued, long, first, contents, step, frames, framing}
+use Rattle.tlv.specs.Limits.{limited, framed}
+use Rattle.tlv.specs.Encode.{header, encode, encodeAll, keepsOf, kept, rewritten, setLast, sized}
+use Rattle.values.specs.Threshold.{threshold, withThreshold}
+use Rattle.changes.specs.Operations.{setOf, removalOf, firstOp, opStep, opsIn, opsOf, bare, limitedOps, operations}
+use Rattle.changes.specs.Fold.{about, touches, lasts, setsOf, removes, removalsBelow, types, foldAll, encodeOp, encodeOps, sizedOps, folded}
+use Rattle.changes.specs.Run.{perform, runAll, ran}
+use Rattle.network_data.specs.Frame as frame
+use Rattle.network_data.specs.Walk as walk
+use Rattle.network_data.specs.Rules as rules
+use Rattle.network_data.specs.Decode as decode
+use Rattle.diag_values.specs.Routes.{assigned, routers, routersOf, routesFit, rowsOf, routeRows}
+use Rattle.diag_values.specs.Rows.{listed, childRows, timeoutSeconds}
+use Rattle.diag_values.specs.Rule.{keepsRule, valueOf}
+use Rattle.starred.specs.Sheet.{Holds, sheet}
+use Rattle.starred.proofs.Same.{all-hold}
+
+pub starred : Every Holds sheet
+unfolding beFrom be bytesOf valued long first contents step frames framing limited framed header encode encodeAll keepsOf kept rewritten setLast sized
+    threshold withThreshold setOf removalOf firstOp opStep opsIn opsOf bare limitedOps operations about touches lasts setsOf removes removalsBelow
+    types foldAll encodeOp encodeOps sizedOps folded perform runAll ran frame.subIn walk.step walk.walk walk.walkIn rules.headAt rules.ended
+    rules.rules rules.checkIn rules.checkHead rules.checkPrefix rules.values rules.checkFrom rules.checkValue decode.placesIn decode.headItems
+    decode.inner decode.prefixAt decode.prefixes decode.contents decode.decodeNetworkData assigned routers routersOf routesFit rowsOf routeRows listed
+    childRows timeoutSeconds keepsRule valueOf
+starred = all-hold sheet tt

@@ -1,0 +1,4 @@
+pub mod Elem
+pub mod FillBy
+pub mod Lends
+pub mod Follows

@@ -1,0 +1,120 @@
+// Answers as text: each function puts its piece into the text from a place on, as far as there is room, and gives the place after it.
+use refusal::Refusal;
+
+// The size of the probe's buffers: more than the longest line has characters, and more than twice what the longest answer has, which is all
+// that can be lent in hex. They are passed as arrays, which need no proof that they keep their length.
+pub const ROOM: usize = 1048576;
+
+pub type Room = [u8; ROOM];
+
+// The part of s from start up to end, or no bytes where s has no such part.
+pub fn part_of<'a>(s: &'a [u8], start: usize, end: usize) -> &'a [u8] {
+    if start <= end {
+        if end <= s.len() {
+            return &s[start..end];
+        }
+    }
+    &s[..0]
+}
+
+pub fn put_byte(text: &mut Room, at: usize, b: u8) -> usize {
+    if at < ROOM {
+        text[at] = b;
+        return at + 1;
+    }
+    at
+}
+
+pub fn put_text(text: &mut Room, at: usize, s: &[u8]) -> usize {
+    let mut next = at;
+    let mut i = 0;
+    while i < s.len() {
+        next = put_byte(text, next, s[i]);
+        i += 1;
+    }
+    next
+}
+
+fn digit_of(value: u8) -> u8 {
+    let v = value % 16;
+    if v < 10 { b'0' + v } else { b'a' - 10 + v }
+}
+
+// Bytes in lower-case hex, and `-` for none.
+pub fn put_hex(text: &mut Room, at: usize, s: &[u8]) -> usize {
+    if s.len() == 0 {
+        return put_byte(text, at, b'-');
+    }
+    let mut next = at;
+    let mut i = 0;
+    while i < s.len() {
+        let b = s[i];
+        let half = put_byte(text, next, digit_of(b / 16));
+        next = put_byte(text, half, digit_of(b));
+        i += 1;
+    }
+    next
+}
+
+pub fn put_number(text: &mut Room, at: usize, n: u64) -> usize {
+    let mut digits = [0u8; 20];
+    let k = io::decimal(n, &mut digits);
+    put_text(text, at, &digits[..k])
+}
+
+// A mark, and a number.
+pub fn put_marked(text: &mut Room, at: usize, mark: u8, n: usize) -> usize {
+    let next = put_byte(text, at, mark);
+    put_number(text, next, n as u64)
+}
+
+// Numbers, the mark before each.
+pub fn put_numbers(text: &mut Room, at: usize, mark: u8, numbers: &[usize]) -> usize {
+    let mut next = at;
+    let mut i = 0;
+    while i < numbers.len() {
+        next = put_marked(text, next, mark, numbers[i]);
+        i += 1;
+    }
+    next
+}
+
+pub fn put_refusal(text: &mut Room, at: usize, r: Refusal) -> usize {
+    let fault = r.fault;
+    let numbers = [fault.number() as usize, r.place, r.input as usize];
+    let word = put_text(text, at, b"refused");
+    put_numbers(text, word, b' ', &numbers)
+}
+
+// The word of an answer that has a value.
+pub fn put_ok(text: &mut Room, at: usize) -> usize {
+    put_text(text, at, b"ok")
+}
+
+pub fn put_absent(text: &mut Room, at: usize) -> usize {
+    put_text(text, at, b"absent")
+}
+
+// A value that is bytes.
+pub fn put_bytes_value(text: &mut Room, at: usize, s: &[u8]) -> usize {
+    let word = put_text(text, at, b"ok ");
+    put_hex(text, word, s)
+}
+
+// A value that is one number, or two, or three.
+pub fn put_one(text: &mut Room, at: usize, a: u64) -> usize {
+    let word = put_text(text, at, b"ok ");
+    put_number(text, word, a)
+}
+
+pub fn put_two(text: &mut Room, at: usize, a: u64, b: u64) -> usize {
+    let first = put_one(text, at, a);
+    let blank = put_byte(text, first, b' ');
+    put_number(text, blank, b)
+}
+
+pub fn put_three(text: &mut Room, at: usize, a: u64, b: u64, c: u64) -> usize {
+    let second = put_two(text, at, a, b);
+    let blank = put_byte(text, second, b' ');
+    put_number(text, blank, c)
+}
