@@ -1,0 +1,50 @@
+//! The library's side: its calls under their C names (crates/speed).
+use crate::inputs::Input;
+
+unsafe extern "C" {
+    fn speed_count(s: *const u8, n: usize) -> u64;
+    fn speed_last(s: *const u8, n: usize, ty: u8) -> u64;
+    fn speed_rewrite(s: *const u8, n: usize, out: *mut u8, room: usize) -> u64;
+    fn speed_unhex(s: *const u8, n: usize, out: *mut u8, room: usize) -> u64;
+    fn speed_hex(s: *const u8, n: usize, out: *mut u8, room: usize) -> u64;
+    fn speed_utf8(s: *const u8, n: usize) -> bool;
+    fn speed_run(d: *const u8, m: usize, l: *const u8, n: usize, out: *mut u8, room: usize) -> u64;
+    fn speed_fold(l: *const u8, n: usize, out: *mut u8, room: usize) -> u64;
+}
+
+pub fn framing(input: &Input, _: &mut [u8]) -> u64 {
+    unsafe { speed_count(input.dataset.as_ptr(), input.dataset.len()) }
+}
+
+pub fn last_value(input: &Input, _: &mut [u8]) -> u64 {
+    unsafe { speed_last(input.dataset.as_ptr(), input.dataset.len(), input.last) }
+}
+
+pub fn rewrite(input: &Input, out: &mut [u8]) -> u64 {
+    unsafe { speed_rewrite(input.dataset.as_ptr(), input.dataset.len(), out.as_mut_ptr(), out.len()) }
+}
+
+pub fn hex_in(input: &Input, out: &mut [u8]) -> u64 {
+    unsafe { speed_unhex(input.hex.as_ptr(), input.hex.len(), out.as_mut_ptr(), out.len()) }
+}
+
+pub fn hex_out(input: &Input, out: &mut [u8]) -> u64 {
+    unsafe { speed_hex(input.dataset.as_ptr(), input.dataset.len(), out.as_mut_ptr(), out.len()) }
+}
+
+pub fn utf8_ascii(input: &Input, _: &mut [u8]) -> u64 {
+    u64::from(unsafe { speed_utf8(input.ascii.as_ptr(), input.ascii.len()) })
+}
+
+pub fn utf8_mixed(input: &Input, _: &mut [u8]) -> u64 {
+    u64::from(unsafe { speed_utf8(input.mixed.as_ptr(), input.mixed.len()) })
+}
+
+pub fn run(input: &Input, out: &mut [u8]) -> u64 {
+    let (d, l) = (&input.dataset, &input.list);
+    unsafe { speed_run(d.as_ptr(), d.len(), l.as_ptr(), l.len(), out.as_mut_ptr(), out.len()) }
+}
+
+pub fn fold(input: &Input, out: &mut [u8]) -> u64 {
+    unsafe { speed_fold(input.list.as_ptr(), input.list.len(), out.as_mut_ptr(), out.len()) }
+}

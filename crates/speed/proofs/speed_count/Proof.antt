@@ -1,0 +1,34 @@
+use mathlib.Core.Path.{_∙_, ap, sym}
+use Rattle.speed.specs.Code.{code}
+use Rattle.tlv.specs.Answers.{countedAnswer}
+use borrow.Author.Needs.{needs}
+use Rattle.speed.proofs.speed_count.Statement.{statement}
+use Rattle.speed.proofs.speed_count.Tie as tie
+use Rattle.speed.proofs.speed_count.Reads as reads
+use Rattle.speed.proofs.speed_count.Lts as lts
+use Rattle.speed.proofs.coded.Reads as coded-reads
+use Rattle.tlv.proofs.count_entries.Reads as count-entries-reads
+
+count-entries-requires : tie.Need-count-entries-requires
+count-entries-requires c κs = search needs
+
+enum-known-n : tie.Need-enum-known-n
+enum-known-n c = search needs
+
+enum-known-r : tie.Need-enum-known-r
+enum-known-r c = search needs
+
+coded-requires : tie.Need-coded-requires
+coded-requires c κs = search needs
+
+returns : tie.Need-returns
+unfolding code
+returns c = ap code (sym (ap countedAnswer (c .before .n .given .1)) ∙ c .before .before .before .«count-entries» .ensures)
+
+returns-2 : tie.Need-returns-2
+returns-2 c = c .coded .ensures ∙ ap code (sym (ap countedAnswer (c .before .before .r .given .1)) ∙ c .before .before .before .before .«count-entries» .ensures)
+
+pub speed-count-spec : {M : Type 1} → statement M
+speed-count-spec =
+    tie.close
+    (tie.spec count-entries-requires enum-known-n enum-known-r coded-requires returns returns-2)

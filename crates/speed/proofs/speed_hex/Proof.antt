@@ -1,0 +1,27 @@
+use mathlib.Core.Path.{_∙_, ap, sym}
+use Rattle.speed.specs.Code.{code}
+use Rattle.refusal.specs.Output.{Output}
+use borrow.Author.Needs.{needs}
+use Rattle.speed.proofs.speed_hex.Statement.{statement}
+use Rattle.speed.proofs.speed_hex.Tie as tie
+use Rattle.speed.proofs.speed_hex.Reads as reads
+use Rattle.speed.proofs.speed_hex.Lts as lts
+use Rattle.base16.proofs.encode.Reads as encode-reads
+use Rattle.speed.proofs.coded.Reads as coded-reads
+
+encode-requires : tie.Need-encode-requires
+encode-requires c κs = search needs
+
+coded-requires : tie.Need-coded-requires
+coded-requires c κs = search needs
+
+same-length : tie.Need-same-length
+same-length c = search needs
+
+returns : tie.Need-returns
+returns c =
+    let wrote = c .before .before .before .encode .ensures in
+    (c .coded .ensures ∙ ap (λ (o : Output). code (o .answer)) wrote, ap (λ (o : Output). o .left) wrote)
+
+pub speed-hex-spec : {M : Type 1} → statement M
+speed-hex-spec = tie.close (tie.spec encode-requires coded-requires same-length returns)

@@ -1,0 +1,89 @@
+// The calls whose instructions bench/ counts, under C names: each answers what is given, or 2^63 plus the number of the refusal.
+use refusal::Written;
+use tlv::Counted;
+ghost use mathlib.Core.Path.{_≡_};
+ghost use lib.ListN.{length};
+ghost use Rattle.refusal.specs.Answer.{given};
+ghost use Rattle.refusal.specs.Output.{emit, writtenAnswer};
+ghost use Rattle.tlv.specs.Limits.{count};
+ghost use Rattle.tlv.specs.Last.{lastValue};
+ghost use Rattle.tlv.specs.Encode.{rewritten};
+ghost use Rattle.tlv.specs.declared.Choice.the-variants.{All};
+ghost use Rattle.base16.specs.Base16.{decoded, hexText};
+ghost use Rattle.utf8.specs.Utf8.{octets};
+ghost use Rattle.changes.specs.Run.{ran};
+ghost use Rattle.changes.specs.Fold.{folded};
+ghost use Rattle.speed.specs.Code.{code};
+
+const NONE: u64 = 9223372036854775808;
+
+fn coded(w: Written) -> u64
+    ensures { λ r. ⌜ r ≡ code (writtenAnswer w) ⌝ }
+{
+    match w {
+        Written::Bytes(n) => n as u64,
+        Written::Refused(r) => {
+            let fault = r.fault;
+            NONE + fault.number() as u64
+        }
+    }
+}
+
+#[no_mangle]
+pub extern "C" fn speed_count(s: &[u8]) -> u64
+    ensures { λ r. ⌜ r ≡ code (count 0 (now (s .entry))) ⌝ }
+{
+    match tlv::count_entries(s, 0) {
+        Counted::Entries(n) => n as u64,
+        Counted::Refused(r) => coded(Written::Refused(r)),
+    }
+}
+
+#[no_mangle]
+pub extern "C" fn speed_last(s: &[u8], ty: u8) -> u64
+    ensures { λ r. ⌜ r ≡ length (lastValue ty (now (s .entry))) ⌝ }
+{
+    tlv::last_value(s, ty).len() as u64
+}
+
+#[no_mangle]
+pub extern "C" fn speed_rewrite(s: &[u8], out: &mut [u8]) -> u64
+    ensures { λ r. ⌜ (r ≡ code (emit (rewritten All (now (s .entry))) (now (out .entry)) .answer)) × (now (out .exit) ≡ emit (rewritten All (now (s .entry))) (now (out .entry)) .left) ⌝ }
+{
+    coded(tlv::rewrite(s, out))
+}
+
+#[no_mangle]
+pub extern "C" fn speed_unhex(text: &[u8], out: &mut [u8]) -> u64
+    ensures { λ r. ⌜ (r ≡ code (emit (decoded (now (text .entry))) (now (out .entry)) .answer)) × (now (out .exit) ≡ emit (decoded (now (text .entry))) (now (out .entry)) .left) ⌝ }
+{
+    coded(base16::decode(text, out))
+}
+
+#[no_mangle]
+pub extern "C" fn speed_hex(bytes: &[u8], out: &mut [u8]) -> u64
+    ensures { λ r. ⌜ (r ≡ code (emit (given (hexText (now (bytes .entry)))) (now (out .entry)) .answer)) × (now (out .exit) ≡ emit (given (hexText (now (bytes .entry)))) (now (out .entry)) .left) ⌝ }
+{
+    coded(base16::encode(bytes, out))
+}
+
+#[no_mangle]
+pub extern "C" fn speed_utf8(s: &[u8]) -> bool
+    ensures { λ r. ⌜ r ≡ octets (now (s .entry)) ⌝ }
+{
+    utf8::is_utf8(s)
+}
+
+#[no_mangle]
+pub extern "C" fn speed_run(dataset: &[u8], list: &[u8], out: &mut [u8]) -> u64
+    ensures { λ r. ⌜ (r ≡ code (emit (ran (now (dataset .entry)) (now (list .entry))) (now (out .entry)) .answer)) × (now (out .exit) ≡ emit (ran (now (dataset .entry)) (now (list .entry))) (now (out .entry)) .left) ⌝ }
+{
+    coded(changes::run(dataset, list, out))
+}
+
+#[no_mangle]
+pub extern "C" fn speed_fold(list: &[u8], out: &mut [u8]) -> u64
+    ensures { λ r. ⌜ (r ≡ code (emit (folded (now (list .entry))) (now (out .entry)) .answer)) × (now (out .exit) ≡ emit (folded (now (list .entry))) (now (out .entry)) .left) ⌝ }
+{
+    coded(changes::fold(list, out))
+}
