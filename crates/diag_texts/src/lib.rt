@@ -1,6 +1,7 @@
 // The texts of diagnostic values, of Network Data and of whole payloads, as the program `probe` answers them.
 mod bare;
 mod fields;
+mod lent;
 mod network;
 mod pairs;
 mod record;

@@ -1,17 +1,19 @@
-// Network Data: a bare value as a field, and the text of one that was counted.
+// Network Data: a bare value as a field, the records that `decode` left in the tables that were lent.
 use crate::fields::put_name;
-use crate::rows::Rows;
-use crate::rows::put_rows;
+use crate::lent::Table;
+use crate::lent::filled;
+use crate::lent::put_dirty;
+use crate::lent::put_table;
+use network_bridge::Decoded;
+use network_bridge::Tables;
 use network_data::Checked;
 use network_data::Counts;
-use refusal::Fault;
-use refusal::Refusal;
 use texts::Room;
 use texts::put_byte;
 use texts::put_ok;
 use texts::put_refusal;
 
-// How many places are lent for each kind of record.
+// How many records are lent of each table.
 pub(crate) fn places(prefixes: u64, has_routes: u64, border_routers: u64) -> Counts {
     Counts {
         prefixes: prefixes as usize,
@@ -20,51 +22,45 @@ pub(crate) fn places(prefixes: u64, has_routes: u64, border_routers: u64) -> Cou
     }
 }
 
-// Whether there are places for all records.
-pub(crate) fn fits(counts: Counts, lent: Counts) -> bool {
-    if counts.prefixes > lent.prefixes {
-        return false;
-    }
-    if counts.has_routes > lent.has_routes {
-        return false;
-    }
-    counts.border_routers <= lent.border_routers
+pub(crate) fn decode(value: &[u8], lent: Counts) -> Decoded {
+    network_bridge::decode(
+        value,
+        filled(),
+        lent.prefixes,
+        lent.has_routes,
+        lent.border_routers,
+    )
 }
 
-pub(crate) fn put_no_room(text: &mut Room, at: usize) -> usize {
-    let r = Refusal {
-        fault: Fault::NoRoom,
-        place: 0,
-        input: 0,
-    };
-    put_refusal(text, at, r)
-}
-
-// The prefixes, the HasRoute rows and the BorderRouter rows of a value.
-pub(crate) fn put_network(text: &mut Room, at: usize, value: &[u8], counts: Counts) -> usize {
+// The prefixes, the HasRoute rows and the BorderRouter rows.
+fn put_tables(text: &mut Room, at: usize, tables: Tables, counts: Counts) -> usize {
     let name = put_name(text, at, diag_values::NETWORK_DATA);
-    let prefixes = put_rows(text, name, Rows::Prefixes, value, counts.prefixes);
+    let prefixes = put_table(text, name, Table::Prefixes, tables, counts.prefixes);
     let first = put_byte(text, prefixes, b'|');
-    let routes = put_rows(text, first, Rows::HasRoutes, value, counts.has_routes);
+    let routes = put_table(text, first, Table::HasRoutes, tables, counts.has_routes);
     let second = put_byte(text, routes, b'|');
-    put_rows(
+    put_table(
         text,
         second,
-        Rows::BorderRouters,
-        value,
+        Table::BorderRouters,
+        tables,
         counts.border_routers,
     )
 }
 
 pub(crate) fn put_bare_network(text: &mut Room, at: usize, value: &[u8], lent: Counts) -> usize {
-    match network_data::check(value, 0) {
+    let decoded = decode(value, lent);
+    let answer = decoded.answer;
+    let tables = decoded.tables;
+    match answer {
         Checked::Counted(counts) => {
-            if !fits(counts, lent) {
-                return put_no_room(text, at);
-            }
             let word = put_ok(text, at);
-            put_network(text, word, value, counts)
+            let end = put_tables(text, word, tables, counts);
+            put_dirty(text, end, tables, counts)
         }
-        Checked::Refused(r) => put_refusal(text, at, r),
+        Checked::Refused(r) => {
+            let end = put_refusal(text, at, r);
+            put_dirty(text, end, tables, places(0, 0, 0))
+        }
     }
 }

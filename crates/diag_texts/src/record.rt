@@ -5,13 +5,12 @@ use crate::fields::put_mac_counters;
 use crate::fields::put_mode;
 use crate::fields::put_name;
 use crate::fields::put_route64_head;
-use crate::network::fits;
-use crate::network::put_network;
-use crate::network::put_no_room;
+use crate::lent::put_dirty;
+use crate::network::decode;
+use crate::network::places;
 use crate::rows::Rows;
 use crate::rows::part;
 use crate::rows::put_rows;
-use diag::Decoded;
 use diag::NetDiagData;
 use diag::OptConnectivity;
 use diag::OptLeaderData;
@@ -22,8 +21,11 @@ use diag::OptPart;
 use diag::OptU32;
 use diag_values::OptU8;
 use diag_values::OptU16;
+use network_bridge::Decoded;
+use network_data::Checked;
 use network_data::Counts;
 use texts::Room;
+use texts::put_byte;
 use texts::put_hex;
 use texts::put_number;
 use texts::put_ok;
@@ -126,6 +128,22 @@ fn put_routes_field(text: &mut Room, at: usize, payload: &[u8], field: OptPart) 
     }
 }
 
+// The records as the calls by number hand them out; those of the tables are what `nd` shows.
+fn put_network(text: &mut Room, at: usize, value: &[u8], counts: Counts) -> usize {
+    let name = put_name(text, at, diag_values::NETWORK_DATA);
+    let prefixes = put_rows(text, name, Rows::Prefixes, value, counts.prefixes);
+    let first = put_byte(text, prefixes, b'|');
+    let routes = put_rows(text, first, Rows::HasRoutes, value, counts.has_routes);
+    let second = put_byte(text, routes, b'|');
+    put_rows(
+        text,
+        second,
+        Rows::BorderRouters,
+        value,
+        counts.border_routers,
+    )
+}
+
 fn put_network_field(text: &mut Room, at: usize, payload: &[u8], field: OptNetworkData) -> usize {
     match field {
         OptNetworkData::Some(x) => {
@@ -223,26 +241,34 @@ fn put_fields(text: &mut Room, at: usize, payload: &[u8], d: NetDiagData) -> usi
     end
 }
 
-// Whether the places that are lent are enough for its Network Data.
-fn has_room(field: OptNetworkData, lent: Counts) -> bool {
+// Its Network Data, as `decode` answers for it and leaves the tables; none of any record where it has none.
+fn decoded(payload: &[u8], field: OptNetworkData, lent: Counts) -> Decoded {
     match field {
-        OptNetworkData::Some(x) => {
-            let counts = x.counts;
-            fits(counts, lent)
+        OptNetworkData::Some(x) => decode(part(payload, x.start, x.len), lent),
+        OptNetworkData::None => decode(part(payload, 0, 0), lent),
+    }
+}
+
+fn put_lent(text: &mut Room, at: usize, payload: &[u8], d: NetDiagData, lent: Counts) -> usize {
+    let network_data = d.network_data;
+    let left = decoded(payload, network_data, lent);
+    let answer = left.answer;
+    let tables = left.tables;
+    match answer {
+        Checked::Counted(counts) => {
+            let end = put_fields(text, at, payload, d);
+            put_dirty(text, end, tables, counts)
         }
-        OptNetworkData::None => true,
+        Checked::Refused(r) => {
+            let end = put_refusal(text, at, r);
+            put_dirty(text, end, tables, places(0, 0, 0))
+        }
     }
 }
 
 pub(crate) fn put_record(text: &mut Room, at: usize, payload: &[u8], lent: Counts) -> usize {
     match NetDiagData::decode(payload) {
-        Decoded::Data(d) => {
-            let network_data = d.network_data;
-            if !has_room(network_data, lent) {
-                return put_no_room(text, at);
-            }
-            put_fields(text, at, payload, d)
-        }
-        Decoded::Refused(r) => put_refusal(text, at, r),
+        diag::Decoded::Data(d) => put_lent(text, at, payload, d, lent),
+        diag::Decoded::Refused(r) => put_refusal(text, at, r),
     }
 }

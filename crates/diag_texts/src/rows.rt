@@ -84,7 +84,7 @@ fn put_context(text: &mut Room, at: usize, context: OptContext) -> usize {
     }
 }
 
-fn put_prefix(text: &mut Room, at: usize, p: PrefixEntry) -> usize {
+pub(crate) fn put_prefix(text: &mut Room, at: usize, p: PrefixEntry) -> usize {
     let bytes = p.prefix;
     let n = (p.prefix_bit_length as usize + 7) / 8;
     let counts = [p.has_routes, p.border_routers];
@@ -98,15 +98,16 @@ fn put_prefix(text: &mut Room, at: usize, p: PrefixEntry) -> usize {
     put_numbers(text, end, b':', &counts)
 }
 
-fn put_has_route(text: &mut Room, at: usize, e: HasRouteEntry) -> usize {
+pub(crate) fn put_has_route(text: &mut Room, at: usize, e: HasRouteEntry) -> usize {
     let rloc16 = put_number(text, at, e.rloc16 as u64);
     let preference = put_marked(text, rloc16, b':', e.router_preference as usize);
     let colon = put_byte(text, preference, b':');
     put_byte(text, colon, digit(e.is_nat64))
 }
 
-fn put_border_router(text: &mut Room, at: usize, e: BorderRouterEntry) -> usize {
-    let digits = [
+// P, S, D, C, R, O, N and DP as digits.
+pub(crate) fn flags(e: BorderRouterEntry) -> [u8; 8] {
+    [
         digit(e.is_preferred),
         digit(e.is_slaac),
         digit(e.is_dhcp),
@@ -115,7 +116,11 @@ fn put_border_router(text: &mut Room, at: usize, e: BorderRouterEntry) -> usize 
         digit(e.is_on_mesh),
         digit(e.is_nd_dns),
         digit(e.is_dp),
-    ];
+    ]
+}
+
+pub(crate) fn put_border_router(text: &mut Room, at: usize, e: BorderRouterEntry) -> usize {
+    let digits = flags(e);
     let rloc16 = put_number(text, at, e.rloc16 as u64);
     let preference = put_marked(text, rloc16, b':', e.prefix_preference as usize);
     let colon = put_byte(text, preference, b':');

@@ -1,30 +1,29 @@
--- Lines of the bench sheet, computed from the definition.
+-- The lines on Network Data of document 01's bench sheet, computed from the definition, and one on "first met".
 -- Assumes nothing.
 use mathlib.Core.Path.{_≡_, refl}
 use mathlib.Core.Bool.{true}
-use mathlib.Core.List.{[], _∷_}
-use Rattle.refusal.specs.Answer.{given, absent, refused}
+use mathlib.Core.List.{List, [], _∷_}
+use Rattle.refusal.specs.Answer.{Answer, given, absent, refused}
+use Rattle.refusal.specs.Every.{Every}
 use Rattle.network_data.specs.Frame.{subIn}
 use Rattle.network_data.specs.Walk.{step, walk, walkIn}
 use Rattle.network_data.specs.Rules.{headAt, join, rule, ended, rules, checkIn, checkHead, checkPrefix, values, checkFrom, checkValue}
-use Rattle.network_data.specs.Decode.{rowPlaces, placesIn, lastContext, headItems, inner, prefixAt, prefixes, contents, decodeNetworkData}
+use Rattle.network_data.specs.Decode.{rowPlaces, placesIn, lastContext, Prefix, headItems, inner, prefixAt, prefixes, contents, decodeNetworkData}
 
--- `03 03 00 04 FD`: one 4-bit prefix
-one-prefix : decodeNetworkData 0 (3 ∷ 3 ∷ 0 ∷ 4 ∷ 253 ∷ []) ≡ given (record { domain = 0; bits = 4; bytes = 253 ∷ []; context = absent; routes = []; borders = [] } ∷ [])
-unfolding subIn step walk walkIn headAt join rule ended rules checkIn checkHead checkPrefix values checkFrom checkValue rowPlaces placesIn lastContext headItems inner prefixAt prefixes contents decodeNetworkData
-one-prefix = refl
+-- an answer, and what it is
+abbrev pub Line : Type 0
+Line = Answer (List Prefix) × Answer (List Prefix)
 
--- `03 02 00 04`: 5
-cut-prefix : decodeNetworkData 0 (3 ∷ 2 ∷ 0 ∷ 4 ∷ []) ≡ refused 5 0 0
-unfolding subIn step walk walkIn headAt join rule ended rules checkIn checkHead checkPrefix values checkFrom checkValue rowPlaces placesIn lastContext headItems inner prefixAt prefixes contents decodeNetworkData
-cut-prefix = refl
+-- one 4-bit prefix; the same cut short; the HasRoute row `A8 00 60`; a row list of 1 byte, with a cut TLV after it
+abbrev pub lines : List Line
+lines =
+    (decodeNetworkData 0 (0x03 ∷ 0x03 ∷ 0x00 ∷ 0x04 ∷ 0xFD ∷ []), given (record { domain = 0; bits = 4; bytes = 0xFD ∷ []; context = absent; routes = []; borders = [] } ∷ []))
+    ∷ (decodeNetworkData 0 (0x03 ∷ 0x02 ∷ 0x00 ∷ 0x04 ∷ []), refused 5 0 0)
+    ∷ (decodeNetworkData 0 (0x02 ∷ 0x07 ∷ 0x00 ∷ 0x00 ∷ 0x00 ∷ 0x03 ∷ 0xA8 ∷ 0x00 ∷ 0x60 ∷ []), given (record { domain = 0; bits = 0; bytes = []; context = absent; routes = record { rloc16 = 0xA800; «router_preference» = 1; «is_nat64» = true } ∷ []; borders = [] } ∷ []))
+    ∷ (decodeNetworkData 0 (0x02 ∷ 0x06 ∷ 0x00 ∷ 0x00 ∷ 0x00 ∷ 0x01 ∷ 0x00 ∷ 0x02 ∷ []), refused 4 0 0)
+    ∷ []
 
--- a HasRoute row `A8 00 60`: 0xA800, 1, NAT64
-one-route : decodeNetworkData 0 (2 ∷ 7 ∷ 0 ∷ 0 ∷ 0 ∷ 3 ∷ 168 ∷ 0 ∷ 96 ∷ []) ≡ given (record { domain = 0; bits = 0; bytes = []; context = absent; routes = record { rloc16 = 43008; «router_preference» = 1; «is_nat64» = true } ∷ []; borders = [] } ∷ [])
-unfolding subIn step walk walkIn headAt join rule ended rules checkIn checkHead checkPrefix values checkFrom checkValue rowPlaces placesIn lastContext headItems inner prefixAt prefixes contents decodeNetworkData
-one-route = refl
-
--- a row list of 1 byte is 4, though the TLV after it is cut
-first-met : decodeNetworkData 0 (2 ∷ 6 ∷ 0 ∷ 0 ∷ 0 ∷ 1 ∷ 0 ∷ 2 ∷ []) ≡ refused 4 0 0
-unfolding subIn step walk walkIn headAt join rule ended rules checkIn checkHead checkPrefix values checkFrom checkValue rowPlaces placesIn lastContext headItems inner prefixAt prefixes contents decodeNetworkData
-first-met = refl
+pub bench : Every (λ (l : Line). l .0 ≡ l .1) lines
+unfolding decodeNetworkData contents prefixes prefixAt inner headItems lastContext placesIn rowPlaces checkValue checkFrom values checkPrefix checkHead
+    checkIn rules ended rule join headAt walkIn walk step subIn
+bench = (refl, (refl, (refl, (refl, tt))))

@@ -1,4 +1,4 @@
-// Thread Network Data (the values of type 7 in decode.rs): its records, the check of a whole value, and its records by their number.
+// Thread Network Data (the values of type 7 in decode.rs): its records, the check of a value, its records by number and into tables, its walker.
 mod checks;
 mod framing;
 mod lent;

@@ -1,13 +1,13 @@
 // A request as it was read: the kinds of its words, and the values that they spell.
 //
 // The arena has first its name, a blank, a kind for each further word and 0; and from BYTES on the bytes that its words spell, side by side.
-use crate::words::same;
 use crate::words::until;
 use texts::ROOM;
 use texts::Room;
 use texts::part_of;
 use texts::put_byte;
 use texts::put_text;
+use texts::same;
 ghost use Prim.Native.Nat.{_≤_};
 
 // A request has at most so many words, its name among them, and a name at most so long: the bytes come after what both can take.

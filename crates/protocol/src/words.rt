@@ -22,18 +22,3 @@ pub(crate) fn until(s: &[u8], from: usize, stop: u8) -> usize
     }
     i
 }
-
-// Whether two texts are the same.
-pub(crate) fn same(a: &[u8], b: &[u8]) -> bool {
-    if a.len() != b.len() {
-        return false;
-    }
-    let mut i = 0;
-    while i < a.len() {
-        if a[i] != b[i] {
-            return false;
-        }
-        i += 1;
-    }
-    true
-}

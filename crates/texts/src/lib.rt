@@ -17,6 +17,21 @@ pub fn part_of<'a>(s: &'a [u8], start: usize, end: usize) -> &'a [u8] {
     &s[..0]
 }
 
+// Whether two texts are the same.
+pub fn same(a: &[u8], b: &[u8]) -> bool {
+    if a.len() != b.len() {
+        return false;
+    }
+    let mut i = 0;
+    while i < a.len() {
+        if a[i] != b[i] {
+            return false;
+        }
+        i += 1;
+    }
+    true
+}
+
 pub fn put_byte(text: &mut Room, at: usize, b: u8) -> usize {
     if at < ROOM {
         text[at] = b;

@@ -1,9 +1,9 @@
--- `protocol::words::same` is safe and ends. Assumes nothing.
+-- `texts::same` is safe and ends. Assumes nothing.
 use Prim.Native.Nat.{_≤_, _-_}
 use lib.ListN.{length}
 use borrow.Author.Needs.{needs}
-use Rattle.protocol.proofs.words.same.Statement.{statement}
-use Rattle.protocol.proofs.words.same.Tie as tie
+use Rattle.texts.proofs.same.Statement.{statement}
+use Rattle.texts.proofs.same.Tie as tie
 
 abbrev Inv-loop : tie.InvT-loop
 Inv-loop a b i₀ i = i ≤ length a

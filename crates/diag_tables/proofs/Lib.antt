@@ -1,0 +1,5 @@
+pub mod Held
+pub mod Plans
+pub mod Values
+pub mod Walk
+pub mod Papers
