@@ -2,7 +2,7 @@
 -- Assumes nothing.
 use mathlib.Core.Path.{_≡_, refl, sym, ap, _∙_, subst}
 use mathlib.Core.Logic.{_⊎_, inl, inr, ⊎-elim}
-use mathlib.Core.List.{List, [], map}
+use mathlib.Core.List.{List, []}
 use Prim.Native.Nat.{ℕ, _≤_}
 use native.Mathlib.Omega.{arith}
 use lib.ListN.{length, take, drop}
@@ -15,10 +15,10 @@ use Rattle.refusal.specs.declared.Fault.the-variants.{NoRoom}
 use Rattle.laws.proofs.Tests.{by-test}
 use Rattle.network_data.specs.Walk.{walk, walkIn}
 use Rattle.network_data.specs.Rules.{ended, values, checkFrom, checkValue}
-use Rattle.network_data.specs.Decode.{Prefix, prefixes, contents, entryOf, allRoutes, allBorders, countsOf, decodeNetworkData}
+use Rattle.network_data.specs.Decode.{Prefix, prefixes, contents, allRoutes, allBorders, countsOf, decodeNetworkData}
 use Rattle.network_data.specs.Answers.{checkedAnswer}
 use Rattle.network_data.specs.Tables as nd
-use Rattle.network_data.specs.Tables.{roomFor, over}
+use Rattle.network_data.specs.Tables.{roomFor}
 use Rattle.network_data.specs.declared.Counts.{Counts}
 use Rattle.network_data.specs.declared.Checked.{Checked}
 use Rattle.network_data.specs.declared.PrefixEntry.{PrefixEntry}

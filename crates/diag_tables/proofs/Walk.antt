@@ -30,6 +30,8 @@ use denote.Builtin.{u8, usize}
 use denote.Ref.{RefT, now}
 use denote.Slice.{sliceTy, sliceVal, shr-slice-lawful, MutSlice, ShrSlice, Room, finally, slice-vals, mut-slice-tells, shr-slice-tells, shr-slice-copy}
 use denote.Steps.{only, owned, nothing, peeks, heard}
+use denote.Enum.Enum.{Few, Plainss, layout}
+use denote.Enum.Declared.{Declared, variants, shape, row}
 use denote.Enum.Laws as EL
 use denote.Signature.{Signature, plain, mutSlice, shrSlice}
 use denote.Triple.Statement.{Contract, Triple}
@@ -65,6 +67,21 @@ RH = TH.the-row
 
 abbrev RB : RattleType
 RB = TB.the-row
+
+-- a declared enum's
+abbrev pub enum-elem : (T : Declared) → EL.Laws T → Plainss (variants T) → Few (shape T) → Elem
+enum-elem T L P few = record {
+  D = T .D;
+  τ = layout (shape T);
+  wr = row T .written;
+  rch = row T .reaches;
+  own = row T .own;
+  coded = row T .coded;
+  val = EL.val T L;
+  tells = EL.tells T L;
+  plain = EL.pure T P;
+  typed = λ 𝓤 H A W. EL.lawful T L 𝓤 H A W few .typed;
+}
 
 -- what `network_data::decode` says of a value and the tables
 abbrev pub Filled : List ℕ → (P P′ : List PrefixEntry) → (H H′ : List HasRouteEntry) → (B B′ : List BorderRouterEntry) → Checked → Type 0

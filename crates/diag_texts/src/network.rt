@@ -22,7 +22,7 @@ pub(crate) fn places(prefixes: u64, has_routes: u64, border_routers: u64) -> Cou
     }
 }
 
-pub(crate) fn decode(value: &[u8], lent: Counts) -> Decoded {
+fn decode(value: &[u8], lent: Counts) -> Decoded {
     network_bridge::decode(
         value,
         filled(),

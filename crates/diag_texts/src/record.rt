@@ -5,12 +5,13 @@ use crate::fields::put_mac_counters;
 use crate::fields::put_mode;
 use crate::fields::put_name;
 use crate::fields::put_route64_head;
+use crate::lent::filled;
 use crate::lent::put_dirty;
-use crate::network::decode;
 use crate::network::places;
 use crate::rows::Rows;
 use crate::rows::part;
 use crate::rows::put_rows;
+use diag::Decoded;
 use diag::NetDiagData;
 use diag::OptConnectivity;
 use diag::OptLeaderData;
@@ -21,8 +22,6 @@ use diag::OptPart;
 use diag::OptU32;
 use diag_values::OptU8;
 use diag_values::OptU16;
-use network_bridge::Decoded;
-use network_data::Checked;
 use network_data::Counts;
 use texts::Room;
 use texts::put_byte;
@@ -241,34 +240,33 @@ fn put_fields(text: &mut Room, at: usize, payload: &[u8], d: NetDiagData) -> usi
     end
 }
 
-// Its Network Data, as `decode` answers for it and leaves the tables; none of any record where it has none.
-fn decoded(payload: &[u8], field: OptNetworkData, lent: Counts) -> Decoded {
+fn counts_of(field: OptNetworkData) -> Counts {
     match field {
-        OptNetworkData::Some(x) => decode(part(payload, x.start, x.len), lent),
-        OptNetworkData::None => decode(part(payload, 0, 0), lent),
+        OptNetworkData::Some(x) => x.counts,
+        OptNetworkData::None => places(0, 0, 0),
     }
 }
 
-fn put_lent(text: &mut Room, at: usize, payload: &[u8], d: NetDiagData, lent: Counts) -> usize {
-    let network_data = d.network_data;
-    let left = decoded(payload, network_data, lent);
+// What `diag_tables::decode` answers, with tables lent that are filled with a pattern.
+pub(crate) fn put_record(text: &mut Room, at: usize, payload: &[u8], lent: Counts) -> usize {
+    let left = diag_bridge::decode(
+        payload,
+        filled(),
+        lent.prefixes,
+        lent.has_routes,
+        lent.border_routers,
+    );
     let answer = left.answer;
     let tables = left.tables;
     match answer {
-        Checked::Counted(counts) => {
+        Decoded::Data(d) => {
+            let network_data = d.network_data;
             let end = put_fields(text, at, payload, d);
-            put_dirty(text, end, tables, counts)
+            put_dirty(text, end, tables, counts_of(network_data))
         }
-        Checked::Refused(r) => {
+        Decoded::Refused(r) => {
             let end = put_refusal(text, at, r);
             put_dirty(text, end, tables, places(0, 0, 0))
         }
-    }
-}
-
-pub(crate) fn put_record(text: &mut Room, at: usize, payload: &[u8], lent: Counts) -> usize {
-    match NetDiagData::decode(payload) {
-        diag::Decoded::Data(d) => put_lent(text, at, payload, d, lent),
-        diag::Decoded::Refused(r) => put_refusal(text, at, r),
     }
 }

@@ -6,10 +6,6 @@ use Prim.Native.Nat.{ℕ}
 use contract.Running.{givenOf, tables, tablesOf}
 use denote.Triple.Spec.{tripleOf}
 use denote.Triple.Table.{entered, cited}
-use denote.Enum.Enum.{Few, Plainss, layout}
-use denote.Enum.Declared.{Declared, variants, shape, row}
-use denote.Enum.Laws as EL
-use Rattle.tables.proofs.Elem.{Elem}
 use Rattle.network_data.proofs.decode as fill
 use Rattle.network_data.proofs.decode.Symbol as fill-def
 use Rattle.network_data.proofs.decode.Met as fill-thm
@@ -23,7 +19,7 @@ use Rattle.diag.proofs.Decoded.Laws as O′
 use Rattle.diag_tables.specs.Tables.{answered, outcome, decoded}
 use Rattle.diag_tables.specs.Planned.{Inside, valueIn, Planned}
 use Rattle.diag_tables.proofs.Plans.{finish}
-use Rattle.diag_tables.proofs.Walk.{decode-meets}
+use Rattle.diag_tables.proofs.Walk.{enum-elem, decode-meets}
 use Rattle.diag_tables.proofs.answer_for as answer
 use Rattle.diag_tables.proofs.answer_for.Symbol as answer-def
 use Rattle.diag_tables.proofs.answer_for.Met as answer-thm
@@ -34,21 +30,6 @@ use Rattle.diag_tables.proofs.decode.Key.{name as #key}
 use Rattle.diag_tables.proofs.decode as dec
 use Rattle.diag_tables.proofs.decode.Statement as stated
 use Rattle.diag_tables.proofs.decode.Code as code
-
--- a declared enum's
-abbrev enum-elem : (T : Declared) → EL.Laws T → Plainss (variants T) → Few (shape T) → Elem
-enum-elem T L P few = record {
-  D = T .D;
-  τ = layout (shape T);
-  wr = row T .written;
-  rch = row T .reaches;
-  own = row T .own;
-  coded = row T .coded;
-  val = EL.val T L;
-  tells = EL.tells T L;
-  plain = EL.pure T P;
-  typed = λ 𝓤 H A W. EL.lawful T L 𝓤 H A W few .typed;
-}
 
 abbrev Settled : List ℕ → (p h b : ℕ) → Decoded → Type 0
 Settled s p h b d = Planned s (answered s p h b) d

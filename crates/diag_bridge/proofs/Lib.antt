@@ -1,0 +1,3 @@
+pub mod Whole
+pub mod Papers
+pub mod Calls
