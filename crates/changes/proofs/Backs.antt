@@ -6,8 +6,8 @@ use Prim.Native.Nat.{ℕ, zero, suc, _+_, _≤_}
 use native.Mathlib.Omega.{arith}
 use lib.ListN.{length}
 use Rattle.tlv.specs.Entries.{first, Content, content, clean}
-use Rattle.tlv.specs.Encode.{encodeAll}
-use Rattle.tlv.proofs.Round.{first-back}
+use Rattle.tlv_writing.specs.Encode.{encodeAll}
+use Rattle.tlv_writing.proofs.Round.{first-back}
 use Rattle.changes.specs.Operations.{Op, set, remove, operation, setOf, removalOf, firstOp, opStep, opsIn, bare}
 use Rattle.changes.specs.Fold.{encodeOp, encodeOps}
 

@@ -7,7 +7,7 @@ use Rattle.refusal.specs.Answer.{Answer, given}
 use Rattle.refusal.specs.Every.{Every}
 use Rattle.tlv.specs.Entries.{contents, valued, first, step, frames, framing}
 use Rattle.tlv.specs.Limits.{limited, framed}
-use Rattle.tlv.specs.Encode.{header, encode, encodeAll, keepsOf, kept, setLast, sized}
+use Rattle.tlv_writing.specs.Encode.{header, encode, encodeAll, keepsOf, kept, setLast, sized}
 use Rattle.changes.specs.Operations.{setOf, removalOf, firstOp, opStep, opsIn, opsOf, bare, limitedOps, operations}
 use Rattle.changes.specs.Run.{perform, runAll, ran}
 use Rattle.changes.specs.Fold.{about, touches, lasts, setsOf, removes, removalsBelow, types, foldAll, encodeOp, encodeOps, sizedOps, folded}

@@ -17,7 +17,7 @@ use Rattle.refusal.specs.Output.{Output, output, emit}
 use Rattle.laws.proofs.Tests.{pick-all}
 use Rattle.tlv.specs.Entries.{Content}
 use Rattle.tlv.specs.Limits.{framed}
-use Rattle.tlv.specs.Encode.{encodeAll, sized}
+use Rattle.tlv_writing.specs.Encode.{encodeAll, sized}
 use Rattle.changes.specs.Operations.{Op, operations}
 use Rattle.changes.specs.Run.{ran}
 use Rattle.changes.specs.Fold.{encodeOps, sizedOps, folded, foldedTwo}

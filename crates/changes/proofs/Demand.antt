@@ -8,7 +8,7 @@ use native.Mathlib.Omega.{arith}
 use Rattle.refusal.specs.Answer.{given}
 use Rattle.tlv.specs.Entries.{entry, contents, valued, first, step, frames, framing}
 use Rattle.tlv.specs.Limits.{limited, framed}
-use Rattle.tlv.specs.Encode.{sized}
+use Rattle.tlv_writing.specs.Encode.{sized}
 use Rattle.changes.specs.Operations.{Op, bare}
 use Rattle.changes.specs.Run.{runAll, ran}
 use Rattle.changes.specs.Fold.{types, foldAll, encodeOps, sizedOps, folded, foldedTwo}

@@ -9,8 +9,8 @@ use lib.ListN.{length}
 use Rattle.refusal.specs.Answer.{given}
 use Rattle.laws.proofs.Tests.{by-test}
 use Rattle.tlv.specs.Entries.{Content, content}
-use Rattle.tlv.specs.Encode.{encodeAll, sized}
-use Rattle.tlv.proofs.Sets.{sized-is}
+use Rattle.tlv_writing.specs.Encode.{encodeAll, sized}
+use Rattle.tlv_writing.proofs.Sets.{sized-is}
 use Rattle.changes.specs.Operations.{Op, set, remove}
 use Rattle.changes.specs.Run.{runAll}
 use Rattle.changes.specs.Fold.{touches, lasts, setsOf, types, foldAll}

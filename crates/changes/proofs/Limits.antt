@@ -11,8 +11,8 @@ use Rattle.refusal.specs.Sizes.{mostBytes, mostEntries, mostShort}
 use Rattle.refusal.specs.Answer.{pick, Answer, given, absent, refused}
 use Rattle.laws.proofs.Tests.{by-test, pick-all}
 use Rattle.tlv.specs.Entries.{Stop, clean, cutAt}
-use Rattle.tlv.specs.Encode.{header, encode}
-use Rattle.tlv.proofs.Encodes.{header-short, header-long}
+use Rattle.tlv_writing.specs.Encode.{header, encode}
+use Rattle.tlv_writing.proofs.Encodes.{header-short, header-long}
 use Rattle.refusal.specs.Every.{Bytes}
 use Rattle.changes.specs.Operations.{Op, set, remove, OpAt, opsOf, bare, limitedOps, operations}
 use Rattle.changes.specs.Fold.{about, types, foldAll, encodeOp, encodeOps, sizedOps}

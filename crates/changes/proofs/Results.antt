@@ -16,10 +16,10 @@ use Rattle.laws.proofs.Parts.{every-append}
 use Rattle.laws.proofs.Puts.{put-then}
 use Rattle.tlv.specs.Entries.{Content, contents, Framing, framing}
 use Rattle.tlv.specs.Limits.{count}
-use Rattle.tlv.specs.Encode.{encodeAll, sized}
+use Rattle.tlv_writing.specs.Encode.{encodeAll, sized}
 use Rattle.tlv.proofs.Walks.{from-start}
 use Rattle.tlv.proofs.Tally as tally
-use Rattle.tlv.proofs.Sets.{encode-append}
+use Rattle.tlv_writing.proofs.Sets.{encode-append}
 use Rattle.changes.specs.Operations.{Op, set, OpAt, opsIn, opsOf, bare, limitedOps, operations}
 use Rattle.changes.specs.Run.{runAll, ran}
 use Rattle.changes.specs.Fold.{lasts, setsOf, foldAll, encodeOps, sizedOps, folded, foldedTwo}

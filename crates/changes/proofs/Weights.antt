@@ -8,7 +8,7 @@ use lib.Dec.{eqb}
 use lib.ListN.{length, length-append}
 use borrow.Author.Tests.{eqb-true, ne-eqb}
 use Rattle.laws.proofs.Tests.{by-test}
-use Rattle.tlv.specs.Encode.{encodeAll}
+use Rattle.tlv_writing.specs.Encode.{encodeAll}
 use Rattle.changes.specs.Operations.{Op, set, remove}
 use Rattle.changes.specs.Fold.{about, touches, lasts, setsOf, removes, removalsBelow, types, foldAll, encodeOp, encodeOps}
 use Rattle.changes.proofs.Lasts.{puts}

@@ -8,9 +8,9 @@ use native.Mathlib.Omega.{arith}
 use lib.ListN.{length, getD, take, drop, length-append}
 use borrow.Author.Tests.{eq-eqb, ne-eqb}
 use Rattle.tlv.specs.Entries.{entry, Content, content, contents, Framing, framing}
-use Rattle.tlv.specs.Encode.{encode, sizeOf, encodeAll}
+use Rattle.tlv_writing.specs.Encode.{encode, sizeOf, encodeAll}
 use Rattle.tlv.proofs.Walks.{from, from-start}
-use Rattle.tlv.proofs.Kept.{encode-more, size-part}
+use Rattle.tlv_writing.proofs.Kept.{encode-more, size-part}
 use Rattle.changes.specs.Fold.{encodeOp}
 use Rattle.changes.specs.Loops.{spared, encodeSet, encodeSets, extentOf}
 

@@ -8,7 +8,7 @@ use lib.ListN.{length, getD}
 use lib.Dec.{eqb}
 use Rattle.refusal.specs.Answer.{pick}
 use Rattle.tlv.specs.Entries.{Content}
-use Rattle.tlv.specs.Encode.{encode, encodeAll}
+use Rattle.tlv_writing.specs.Encode.{encode, encodeAll}
 use Rattle.changes.specs.Operations.{Op, set, remove, OpAt, opAt, opsOf}
 use Rattle.changes.specs.Fold.{about, encodeOp, encodeOps}
 use Rattle.changes.specs.declared.Extent.{Extent}

@@ -12,7 +12,7 @@ ghost use Rattle.refusal.specs.Sizes.{mostBytes, mostEntries, mostValue};
 ghost use Rattle.refusal.specs.Answer.{pick, onGiven};
 ghost use Rattle.refusal.specs.Output.{output, emit, writtenAnswer, put};
 ghost use Rattle.tlv.specs.Entries.{content, contents, framing};
-ghost use Rattle.tlv.specs.Encode.{sizeOf, encodeAll};
+ghost use Rattle.tlv_writing.specs.Encode.{sizeOf, encodeAll};
 ghost use Rattle.tlv.specs.Place.{frameAt};
 ghost use Rattle.changes.specs.Operations.{operations};
 ghost use Rattle.changes.specs.Run.{ran};
@@ -83,7 +83,7 @@ pub fn operation_at(list: &[u8], at: usize) -> OpFrame
     OpFrame::Bad
 }
 
-// The place of the 129th operation: at, where 128 are passed, and else over, as it was.
+// The place of the first operation past the most that a list may have: at, where that many are passed, and else over, as it was.
 fn over_at(n: usize, at: usize, over: usize) -> usize
     ensures { λ r. ⌜ r ≡ pick (eqb n mostEntries) at over ⌝ }
 {
@@ -241,9 +241,9 @@ fn put_set(ty: u8, value: &[u8], marked: bool, out: &mut [u8], at: usize) -> usi
     if marked {
         out[at] = 0x53;
         out[at + 1] = 0x45;
-        return tlv::put_entry(ty, value, out, at + 2);
+        return tlv_writing::put_entry(ty, value, out, at + 2);
     }
-    tlv::put_entry(ty, value, out, at)
+    tlv_writing::put_entry(ty, value, out, at)
 }
 
 // The entries whose types have no mark, at the start of out; the place after them.
@@ -258,7 +258,7 @@ fn put_spared(s: &[u8], marks: [usize; 256], out: &mut [u8]) -> usize
             Frame::Entry { ty, start, len } => {
                 let end = start + len;
                 if marks[ty as usize] == 0 {
-                    to = tlv::put_entry(ty, &s[start..end], out, to);
+                    to = tlv_writing::put_entry(ty, &s[start..end], out, to);
                 }
                 at = end;
             }

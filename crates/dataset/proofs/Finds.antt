@@ -16,6 +16,7 @@ use Rattle.tlv.specs.Answers.{foundAnswer}
 use Rattle.tlv.specs.declared.Found.{Found}
 use Rattle.tlv.specs.declared.Found.the-variants as f
 use Rattle.tlv.proofs.Lasts.{spot-part}
+use Rattle.laws.proofs.Answers.{on-itself}
 use Rattle.dataset.specs.Queries.{rules, lengthIn, query}
 
 -- the entry that is given: at the place p, with the value v from a on
@@ -40,11 +41,6 @@ module _ {B : Type 0} (g : Entry → Answer B) where
   refused-by (given e) n p i k = absurd (let z : _≡_ {A = ℕ} 0 1 = cc in omega arith)
   refused-by absent n p i k = absurd (let z : _≡_ {A = ℕ} 0 1 = cc in omega arith)
   refused-by (refused m q j) n p i k = cc
-
-pub on-itself : (a : Answer (List ℕ)) → onGiven (λ (v : List ℕ). v) a ≡ a
-on-itself (given v) = refl
-on-itself absent = refl
-on-itself (refused n p i) = refl
 
 -- ---- by what `last_entry` answered
 module _ (ty : ℕ) (s : List ℕ) (r : Found) (says : foundAnswer r ≡ lastSpot ty 0 s) where

@@ -7,15 +7,12 @@ use mathlib.Core.List.{List, [], _∷_}
 use mathlib.Core.Logic.{⊎-elim}
 use Prim.Native.Nat.{ℕ, _+_, _≤_}
 use native.Mathlib.Omega.{arith}
-use lib.Dec.{ltb}
 use lib.ListN.{length, take, drop}
 use types.Run.{OneOf}
 use denote.Enum.Declared.{tagOf}
-use Rattle.refusal.specs.Sizes.{mostBytes}
 use Rattle.refusal.specs.Answer.{Answer, given, absent, refused, thenDo, onGiven}
 use Rattle.refusal.specs.Number.{refusalAnswer}
 use Rattle.refusal.specs.declared.Refusal.{Refusal}
-use Rattle.laws.proofs.Tests.{by-test}
 use Rattle.tlv.specs.Entries.{Entry, entry}
 use Rattle.tlv.specs.Last.{lastEntry, spotAt, spot, lastSpot, valueOr, lastValue}
 use Rattle.tlv.specs.Answers.{foundAnswer}
@@ -23,16 +20,16 @@ use Rattle.tlv.specs.declared.Found.{Found}
 use Rattle.tlv.specs.declared.Found.the-variants as f
 use Rattle.tlv.proofs.Found
 use Rattle.tlv.proofs.Lasts.{spot-part}
-use Rattle.utf8.specs.Utf8.{octets}
-use Rattle.values.specs.Mask.{items, maskAnswer}
-use Rattle.values.specs.declared.ReadMask.{ReadMask}
-use Rattle.values.specs.declared.ReadMask.the-variants as m
-use Rattle.values.proofs.ReadMask
-use Rattle.dataset.specs.Queries.{sizedValue, nameAt, nameEntry, maskEntry, maskCount}
-use Rattle.dataset.specs.Answers.{checkedAnswer, checked}
-use Rattle.dataset.specs.declared.Checked.{Checked}
-use Rattle.dataset.specs.declared.Checked.the-variants as c
-use Rattle.dataset.proofs.Checked
+use Rattle.channel_masks.specs.Mask.{items, maskAnswer}
+use Rattle.channel_masks.specs.declared.ReadMask.{ReadMask}
+use Rattle.channel_masks.specs.declared.ReadMask.the-variants as m
+use Rattle.channel_masks.proofs.ReadMask
+use Rattle.plain_values.specs.Plain.{nameAt, checkedAnswer, checked}
+use Rattle.plain_values.specs.declared.Checked.{Checked}
+use Rattle.plain_values.specs.declared.Checked.the-variants as c
+use Rattle.plain_values.proofs.Checked
+use Rattle.plain_values.proofs.Names.{name-there}
+use Rattle.dataset.specs.Queries.{nameEntry, maskEntry, maskCount}
 use Rattle.dataset.proofs.Finds.{found}
 
 isGiven : {A : Type 0} → Answer A → Bool
@@ -80,17 +77,6 @@ module _ {A : Type 0} (g : Entry → Answer A) where
   keep-kind h (refused n p i) = refl
 
 -- ---- the network name
-
--- a check of a name never says that there is none
-name-there : (place : ℕ) (v : List ℕ) → absent ≡ checked (nameAt place v) → ⊥
-unfolding nameAt sizedValue
-name-there place v k =
-    by-test (ltb mostBytes (length v))
-    (λ t. let z : absent ≡ refused 1 0 0 = k ∙ simp t in let z : _≡_ {A = ℕ} 0 1 = cc in omega arith)
-    (λ t.
-    by-test (octets v)
-    (λ u. let z : absent ≡ given tt = k ∙ simp (t, u) in let z : _≡_ {A = ℕ} 0 1 = cc in omega arith)
-    (λ u. let z : absent ≡ refused 6 place 0 = k ∙ simp (t, u) in let z : _≡_ {A = ℕ} 0 1 = cc in omega arith))
 
 name-given : (place : ℕ) (v : List ℕ) (r : Checked) → OneOf (0 ∷ 1 ∷ []) (tagOf Checked.the-type r) → checkedAnswer r ≡ checked (nameAt place v)
     → isGiven (nameAt place v) ≡ true

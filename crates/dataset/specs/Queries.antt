@@ -3,14 +3,13 @@
 use Prim.Native.Nat.{ℕ}
 use mathlib.Core.List.{List, [], _∷_}
 use lib.ListN.{length}
-use lib.Dec.{ltb, eqb}
-use Rattle.refusal.specs.Sizes.{mostBytes}
-use Rattle.refusal.specs.Answer.{pick, Answer, given, refused, thenDo, onGiven}
+use lib.Dec.{eqb}
+use Rattle.refusal.specs.Answer.{pick, Answer, thenDo, onGiven}
 use Rattle.wire.specs.Be.{ruled}
 use Rattle.tlv.specs.Entries.{Entry}
 use Rattle.tlv.specs.Last.{lastEntry}
-use Rattle.utf8.specs.Utf8.{octets}
-use Rattle.values.specs.Mask.{items, Masked}
+use Rattle.channel_masks.specs.Mask.{items, Masked}
+use Rattle.plain_values.specs.Plain.{nameAt}
 
 -- a type, and the length that its value must have
 pub record Rule : Type 0 where
@@ -42,14 +41,6 @@ lengthIn (r ∷ rs) ty = pick (eqb (r .ty) ty) (r .len) (lengthIn rs ty)
 -- what f reads of the value of a type that has a rule
 unfoldable pub query : {A : Type 0} → (ty : ℕ) → (List ℕ → A) → List ℕ → Answer A
 query ty f s = thenDo (lastEntry ty 0 s) (λ (e : Entry). onGiven f (ruled (lengthIn rules ty) (e .place) (e .value)))
-
--- a value of any length, within the size
-unfoldable pub sizedValue : List ℕ → Answer (List ℕ)
-sizedValue v = pick (ltb mostBytes (length v)) (refused 1 0 0) (given v)
-
--- a network name: "valid UTF-8, empty allowed", else 6 at the place of its entry
-unfoldable pub nameAt : (place : ℕ) → List ℕ → Answer (List ℕ)
-nameAt place v = thenDo (sizedValue v) (λ (w : List ℕ). pick (octets w) (given w) (refused 6 place 0))
 
 -- the entry of the network name (type 3), where its value is one
 unfoldable pub nameEntry : List ℕ → Answer Entry

@@ -1,34 +1,32 @@
-// A dataset (dataset.rs): its typed queries, its edits, and its hex text.
-use refusal::Fault;
-use refusal::Refusal;
-use refusal::Written;
-use tlv::Choice;
-use tlv::Counted;
+// A dataset (dataset.rs): its typed queries.
+use channel_masks::ReadMask;
+use plain_values::Array8;
+use plain_values::Array16;
+use plain_values::Checked;
+use plain_values::check_name;
+use plain_values::read_array_8;
+use plain_values::read_array_16;
+use timestamps::ReadTimestamp;
+use timestamps::Timestamp;
 use tlv::Found;
 use values::Channel;
 use values::ReadChannel;
-use values::ReadMask;
 use values::ReadPolicy;
-use values::ReadTimestamp;
 use values::SecurityPolicy;
-use values::Timestamp;
 use wire::Read16;
 use wire::Read32;
 ghost use mathlib.Core.Path.{_≡_};
 ghost use mathlib.Core.List.{List};
 ghost use Prim.Native.Nat.{ℕ};
 ghost use Rattle.refusal.specs.Answer.{onGiven};
-ghost use Rattle.refusal.specs.Output.{output, emit, writtenAnswer};
-ghost use Rattle.wire.specs.Be.{be, ruled, answer16, answer32};
+ghost use Rattle.wire.specs.Be.{be, answer16, answer32};
 ghost use Rattle.tlv.specs.Last.{spot, lastSpot, lastValue, valueOr};
-ghost use Rattle.tlv.specs.Encode.{rewritten, withSet};
 ghost use Rattle.tlv.specs.Answers.{foundAnswer};
-ghost use Rattle.tlv.specs.declared.Choice.the-variants.{All, Without};
-ghost use Rattle.values.specs.Typed.{channelOf, channelAnswer, timestampOf, timestampAnswer, policyOf, policyAnswer};
-ghost use Rattle.values.specs.Mask.{maskAnswer};
-ghost use Rattle.dataset.specs.Queries.{rules, lengthIn, query, sizedValue, nameAt, nameEntry, maskEntry, maskCount};
-ghost use Rattle.dataset.specs.Edits.{hexOf, wellFramed, fromHex};
-ghost use Rattle.dataset.specs.Answers.{checkedAnswer, checked, copy8, copy16, copied};
+ghost use Rattle.values.specs.Typed.{channelOf, channelAnswer, policyOf, policyAnswer};
+ghost use Rattle.timestamps.specs.Timestamps.{timestampOf, timestampAnswer};
+ghost use Rattle.channel_masks.specs.Mask.{maskAnswer};
+ghost use Rattle.plain_values.specs.Plain.{copy8, copy16, copied};
+ghost use Rattle.dataset.specs.Queries.{rules, lengthIn, query, nameEntry, maskEntry, maskCount};
 
 pub const TLV_CHANNEL: u8 = 0x00;
 
@@ -53,109 +51,6 @@ pub const TLV_PENDING_TIMESTAMP: u8 = 0x33;
 pub const TLV_DELAY_TIMER: u8 = 0x34;
 
 pub const TLV_CHANNEL_MASK: u8 = 0x35;
-
-// Whether a value is there and keeps its rule.
-pub enum Checked {
-    Valid,
-    Absent,
-    Refused(Refusal),
-}
-
-// A copy of a value of 8 bytes, or zeros and why there is none.
-pub struct Array8 {
-    pub answer: Checked,
-    pub bytes: [u8; 8],
-}
-
-// A copy of a value of 16 bytes, or zeros and why there is none.
-pub struct Array16 {
-    pub answer: Checked,
-    pub bytes: [u8; 16],
-}
-
-// The 8 bytes of a value of that length. Refusals: 1, then 4 at the place of its entry, which is 0 for a bare value.
-pub fn read_array_8(value: &[u8], place: usize) -> Array8
-    ensures { λ r. ⌜ copy8 r ≡ copied 8 (ruled 8 place (now (value .entry))) ⌝ }
-{
-    let n = value.len();
-    if n != 8 {
-        return Array8 {
-            answer: Checked::Refused(wire::misfit(n, place)),
-            bytes: [0u8; 8],
-        };
-    }
-    Array8 {
-        answer: Checked::Valid,
-        bytes: [
-            value[0],
-            value[1],
-            value[2],
-            value[3],
-            value[4],
-            value[5],
-            value[6],
-            value[7],
-        ],
-    }
-}
-
-// The same of 16 bytes.
-pub fn read_array_16(value: &[u8], place: usize) -> Array16
-    ensures { λ r. ⌜ copy16 r ≡ copied 16 (ruled 16 place (now (value .entry))) ⌝ }
-{
-    let n = value.len();
-    if n != 16 {
-        return Array16 {
-            answer: Checked::Refused(wire::misfit(n, place)),
-            bytes: [0u8; 16],
-        };
-    }
-    let mut bytes = [0u8; 16];
-    let mut i: usize = 0;
-    while i < 16 {
-        bytes[i] = value[i];
-        i += 1;
-    }
-    Array16 {
-        answer: Checked::Valid,
-        bytes: bytes,
-    }
-}
-
-// A bare value of any length, as a PSKc is. Refusal: 1.
-pub fn check_bytes(value: &[u8]) -> Checked
-    ensures { λ r. ⌜ checkedAnswer r ≡ checked (sizedValue (now (value .entry))) ⌝ }
-{
-    if value.len() > refusal::MAX_BYTES {
-        return Checked::Refused(Refusal {
-            fault: Fault::TooLarge,
-            place: 0,
-            input: 0,
-        });
-    }
-    Checked::Valid
-}
-
-// A network name. Refusals: 1, then 6 at the place of its entry, which is 0 for a bare value.
-pub fn check_name(value: &[u8], place: usize) -> Checked
-    ensures { λ r. ⌜ checkedAnswer r ≡ checked (nameAt place (now (value .entry))) ⌝ }
-{
-    if value.len() > refusal::MAX_BYTES {
-        return Checked::Refused(Refusal {
-            fault: Fault::TooLarge,
-            place: 0,
-            input: 0,
-        });
-    }
-    if utf8::is_utf8(value) {
-        return Checked::Valid;
-    }
-    Checked::Refused(Refusal {
-        fault: Fault::NotUtf8,
-        place: place,
-        input: 0,
-    })
-}
 
 // Where the last entry of a type lies. Refusals: 1, 2, 3.
 pub fn raw(s: &[u8], ty: u8) -> Found
@@ -335,13 +230,16 @@ pub fn channel_mask(s: &[u8]) -> ReadMask
     ensures { λ r. ⌜ maskAnswer r ≡ maskCount (now (s .entry)) ⌝ }
 {
     match tlv::last_entry(s, TLV_CHANNEL_MASK, 0) {
-        Found::At { place, start, len } => values::count_mask_items(&s[start..start + len], place),
+        Found::At { place, start, len } => channel_masks::count_mask_items(
+            &s[start..start + len],
+            place,
+        ),
         Found::Absent => ReadMask::Absent,
         Found::Refused(r) => ReadMask::Refused(r),
     }
 }
 
-// The channel mask, as a part of s to walk with `values::mask_item_at`; no bytes where there is none (`channel_mask` tells which).
+// The channel mask, as a part of s to walk with `channel_masks::mask_item_at`; no bytes where there is none (`channel_mask` tells which).
 pub fn channel_mask_value<'a>(s: &'a [u8]) -> &'a [u8]
     ensures { λ r. ⌜ now r ≡ valueOr (maskEntry (now (s .entry))) ⌝ }
 {
@@ -349,63 +247,4 @@ pub fn channel_mask_value<'a>(s: &'a [u8]) -> &'a [u8]
         ReadMask::Items(_) => tlv::last_value(s, TLV_CHANNEL_MASK),
         _ => &s[..0],
     }
-}
-
-// The edits, into a lent output. Setting: 1, 2, 3, 13, 10, 11.
-pub fn set_raw(s: &[u8], ty: u8, value: &[u8], out: &mut [u8]) -> Written
-    ensures { λ r. ⌜ output (writtenAnswer r) (now (out .exit)) ≡ emit (withSet ty (now (value .entry)) (now (s .entry))) (now (out .entry)) ⌝ }
-{
-    tlv::set_last(s, ty, value, out)
-}
-
-// Removing: 1, 2, 3, 11.
-pub fn remove_all(s: &[u8], ty: u8, out: &mut [u8]) -> Written
-    ensures { λ r. ⌜ output (writtenAnswer r) (now (out .exit)) ≡ emit (rewritten (Without ty) (now (s .entry))) (now (out .entry)) ⌝ }
-{
-    tlv::write_kept(s, Choice::Without(ty), out)
-}
-
-// Written afresh: 1, 2, 3, 11.
-pub fn to_bytes(s: &[u8], out: &mut [u8]) -> Written
-    ensures { λ r. ⌜ output (writtenAnswer r) (now (out .exit)) ≡ emit (rewritten All (now (s .entry))) (now (out .entry)) ⌝ }
-{
-    tlv::rewrite(s, out)
-}
-
-// Written afresh, as hex text in lower case: 1, 2, 3, 11.
-pub fn to_hex(s: &[u8], out: &mut [u8]) -> Written
-    ensures { λ r. ⌜ output (writtenAnswer r) (now (out .exit)) ≡ emit (hexOf (now (s .entry))) (now (out .entry)) ⌝ }
-{
-    let mut bytes = [0u8; refusal::MAX_BYTES];
-    match tlv::rewrite(s, &mut bytes) {
-        Written::Refused(r) => Written::Refused(r),
-        Written::Bytes(n) => base16::encode(&bytes[0..n], out),
-    }
-}
-
-// The bytes of a dataset in hex text, as decoded: 1, 7, 8, 2, 3, 11.
-pub fn from_hex(text: &[u8], out: &mut [u8]) -> Written
-    ensures { λ r. ⌜ output (writtenAnswer r) (now (out .exit)) ≡ emit (fromHex (now (text .entry))) (now (out .entry)) ⌝ }
-{
-    let mut bytes = [0u8; refusal::MAX_BYTES];
-    match base16::decode(text, &mut bytes) {
-        Written::Refused(r) => Written::Refused(r),
-        Written::Bytes(n) => framed_copy(&bytes[0..n], out),
-    }
-}
-
-// A dataset's bytes as they are, at the start of out, where they are well-formed.
-fn framed_copy(s: &[u8], out: &mut [u8]) -> Written
-    ensures { λ r. ⌜ output (writtenAnswer r) (now (out .exit)) ≡ emit (wellFramed (now (s .entry))) (now (out .entry)) ⌝ }
-{
-    match tlv::count_entries(s, 0) {
-        Counted::Refused(r) => {
-            return Written::Refused(r);
-        }
-        Counted::Entries(_) => {}
-    }
-    if s.len() > out.len() {
-        return refusal::refuse(Fault::NoRoom, 0);
-    }
-    Written::Bytes(wire::put_bytes(s, out, 0))
 }

@@ -13,7 +13,7 @@ use Rattle.laws.proofs.Tests.{by-test}
 use Rattle.refusal.specs.Answer.{absent}
 use Rattle.tlv.specs.Entries.{Entry, entry, framing}
 use Rattle.tlv.proofs.Lasts.{lastSpotOf, last-hit, last-miss, last-none}
-use Rattle.diag.specs.Parts.{last, allOf}
+use Rattle.diag.specs.Parts.{allOf}
 use Rattle.diag.specs.Loops.{spotIn, Located}
 use Rattle.diag.specs.declared.Places.{Places}
 use Rattle.diag.proofs.Lasts.{all-none, all-more, all-same, last-spots}

@@ -3,3 +3,4 @@ pub mod Parts
 pub mod Puts
 pub mod Emits
 pub mod Callers
+pub mod Answers

@@ -3,52 +3,32 @@
 use mathlib.Core.List.{List}
 use mathlib.Core.Path.{_≡_}
 use Prim.Native.Nat.{ℕ}
-use Rattle.dataset.proofs.Papers.{checked-tells, copy16-tells, copy8-tells}
-use Rattle.dataset.specs.Answers.{checked, checkedAnswer, copied, copy16, copy8}
-use Rattle.dataset.specs.Edits.{fromHex, hexOf}
-use Rattle.dataset.specs.Queries.{maskCount, maskEntry, nameAt, nameEntry, query, sizedValue}
-use Rattle.dataset.specs.declared.Array16.{Array16}
-use Rattle.dataset.specs.declared.Array8.{Array8}
-use Rattle.dataset.specs.declared.Checked.{Checked}
-use Rattle.refusal.proofs.Papers.{written-tells}
+use Rattle.dataset.specs.Queries.{maskCount, maskEntry, nameEntry, query}
+use Rattle.channel_masks.proofs.Papers.{mask-tells}
+use Rattle.channel_masks.specs.Mask.{maskAnswer}
+use Rattle.channel_masks.specs.declared.ReadMask.{ReadMask}
+use Rattle.plain_values.proofs.Papers.{copy16-tells, copy8-tells}
+use Rattle.plain_values.specs.Plain.{copied, copy16, copy8}
+use Rattle.plain_values.specs.declared.Array16.{Array16}
+use Rattle.plain_values.specs.declared.Array8.{Array8}
 use Rattle.refusal.specs.Answer.{onGiven}
-use Rattle.refusal.specs.Output.{emit, output, writtenAnswer}
-use Rattle.refusal.specs.declared.Written.{Written}
+use Rattle.timestamps.proofs.Papers.{timestamp-tells}
+use Rattle.timestamps.specs.Timestamps.{timestampAnswer, timestampOf}
+use Rattle.timestamps.specs.declared.ReadTimestamp.{ReadTimestamp}
 use Rattle.tlv.proofs.Papers.{found-tells}
 use Rattle.tlv.specs.Answers.{foundAnswer}
-use Rattle.tlv.specs.Encode.{rewritten, withSet}
 use Rattle.tlv.specs.Last.{lastSpot, lastValue, spot, valueOr}
-use Rattle.tlv.specs.declared.Choice.the-variants.{All, Without}
 use Rattle.tlv.specs.declared.Found.{Found}
-use Rattle.values.proofs.Papers.{channel-tells, mask-tells, policy-tells, timestamp-tells}
-use Rattle.values.specs.Mask.{maskAnswer}
-use Rattle.values.specs.Typed.{channelAnswer, channelOf, policyAnswer, policyOf, timestampAnswer, timestampOf}
+use Rattle.values.proofs.Papers.{channel-tells, policy-tells}
+use Rattle.values.specs.Typed.{channelAnswer, channelOf, policyAnswer, policyOf}
 use Rattle.values.specs.declared.ReadChannel.{ReadChannel}
-use Rattle.values.specs.declared.ReadMask.{ReadMask}
 use Rattle.values.specs.declared.ReadPolicy.{ReadPolicy}
-use Rattle.values.specs.declared.ReadTimestamp.{ReadTimestamp}
 use Rattle.wire.proofs.Papers.{read16-tells, read32-tells}
-use Rattle.wire.specs.Be.{answer16, answer32, be, ruled}
+use Rattle.wire.specs.Be.{answer16, answer32, be}
 use Rattle.wire.specs.declared.Read16.{Read16}
 use Rattle.wire.specs.declared.Read32.{Read32}
-use Rattle.one_answer.specs.One.{Leaves, One}
-use Rattle.one_answer.proofs.General.{leaves, one, one-itself}
-
--- dataset::read_array_8
-pub read-array-8 : (value : List ℕ) (place : ℕ) → One (λ (r : Array8). copy8 r ≡ copied 8 (ruled 8 place value))
-read-array-8 value place = one copy8 copy8-tells _
-
--- dataset::read_array_16
-pub read-array-16 : (value : List ℕ) (place : ℕ) → One (λ (r : Array16). copy16 r ≡ copied 16 (ruled 16 place value))
-read-array-16 value place = one copy16 copy16-tells _
-
--- dataset::check_bytes
-pub check-bytes : (value : List ℕ) → One (λ (r : Checked). checkedAnswer r ≡ checked (sizedValue value))
-check-bytes value = one checkedAnswer checked-tells _
-
--- dataset::check_name
-pub check-name : (value : List ℕ) (place : ℕ) → One (λ (r : Checked). checkedAnswer r ≡ checked (nameAt place value))
-check-name value place = one checkedAnswer checked-tells _
+use Rattle.one_answer.proofs.General.{one, one-itself}
+use Rattle.one_answer.specs.One.{One}
 
 -- dataset::raw
 pub raw : (s : List ℕ) (ty : ℕ) → One (λ (r : Found). foundAnswer r ≡ lastSpot ty 0 s)
@@ -117,23 +97,3 @@ channel-mask s = one maskAnswer mask-tells _
 -- dataset::channel_mask_value
 pub channel-mask-value : (s : List ℕ) → One (λ (r : List ℕ). r ≡ valueOr (maskEntry s))
 channel-mask-value s = one-itself _
-
--- dataset::set_raw
-pub set-raw : (s : List ℕ) (ty : ℕ) (value : List ℕ) (out : List ℕ) → Leaves (λ (r : Written) (left : List ℕ). output (writtenAnswer r) left ≡ emit (withSet ty value s) out)
-set-raw s ty value out = leaves writtenAnswer written-tells _
-
--- dataset::remove_all
-pub remove-all : (s : List ℕ) (ty : ℕ) (out : List ℕ) → Leaves (λ (r : Written) (left : List ℕ). output (writtenAnswer r) left ≡ emit (rewritten (Without ty) s) out)
-remove-all s ty out = leaves writtenAnswer written-tells _
-
--- dataset::to_bytes
-pub to-bytes : (s : List ℕ) (out : List ℕ) → Leaves (λ (r : Written) (left : List ℕ). output (writtenAnswer r) left ≡ emit (rewritten All s) out)
-to-bytes s out = leaves writtenAnswer written-tells _
-
--- dataset::to_hex
-pub to-hex : (s : List ℕ) (out : List ℕ) → Leaves (λ (r : Written) (left : List ℕ). output (writtenAnswer r) left ≡ emit (hexOf s) out)
-to-hex s out = leaves writtenAnswer written-tells _
-
--- dataset::from_hex
-pub from-hex : (text : List ℕ) (out : List ℕ) → Leaves (λ (r : Written) (left : List ℕ). output (writtenAnswer r) left ≡ emit (fromHex text) out)
-from-hex text out = leaves writtenAnswer written-tells _

@@ -4,11 +4,11 @@ use mathlib.Core.Path.{_≡_, sym, ap, _∙_}
 use Prim.Native.Nat.{ℕ}
 use mathlib.Core.List.{List}
 use Rattle.refusal.specs.Answer.{Answer}
-use Rattle.refusal.specs.Number.{faultNumber, refusalAnswer}
+use Rattle.refusal.specs.Number.{refusalAnswer}
 use Rattle.refusal.specs.Output.{Output, output, Placed, placing}
 use Rattle.refusal.specs.declared.Refusal.{Refusal}
 use Rattle.refusal.proofs.Papers.{Tells, tells, codeOf, refusalOf, refusal-back}
-use Rattle.values.specs.declared.Timestamp.{Timestamp}
+use Rattle.timestamps.specs.declared.Timestamp.{Timestamp}
 use Rattle.values.specs.declared.SecurityPolicyFlags.{SecurityPolicyFlags}
 use Rattle.one_answer.specs.One.{One, Leaves}
 

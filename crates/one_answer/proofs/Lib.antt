@@ -2,10 +2,15 @@ pub mod General
 pub mod Refusal
 pub mod Wire
 pub mod Tlv
+pub mod TlvWriting
 pub mod Base16
 pub mod Utf8
 pub mod Values
+pub mod Timestamps
+pub mod ChannelMasks
+pub mod PlainValues
 pub mod Dataset
+pub mod DatasetEdits
 pub mod Changes
 pub mod Delay
 pub mod NetworkData

@@ -3,7 +3,7 @@
 use mathlib.Core.List.{List}
 use mathlib.Core.Path.{_≡_}
 use Prim.Native.Nat.{ℕ}
-use Rattle.listing.specs.Listing.{listed, listedHex, listing, report}
+use Rattle.listing.specs.Listing.{listed, listedHex, report}
 use Rattle.refusal.proofs.Papers.{written-tells}
 use Rattle.refusal.specs.Answer.{given}
 use Rattle.refusal.specs.Output.{emit, output, writtenAnswer}

@@ -7,7 +7,7 @@ use texts::Room;
 
 pub(crate) fn edit_calls(request: &Room, v: Values, lent: &mut [u8]) -> Answer {
     if asks(request, b"set tbbn") {
-        return Answer::Wrote(dataset::set_raw(
+        return Answer::Wrote(dataset_edits::set_raw(
             v.bytes(request, 3),
             v.type_byte(1),
             v.bytes(request, 2),
@@ -15,16 +15,20 @@ pub(crate) fn edit_calls(request: &Room, v: Values, lent: &mut [u8]) -> Answer {
         ));
     }
     if asks(request, b"remove tbn") {
-        return Answer::Wrote(dataset::remove_all(v.bytes(request, 2), v.type_byte(1), lent));
+        return Answer::Wrote(dataset_edits::remove_all(v.bytes(request, 2), v.type_byte(1), lent));
     }
     if asks(request, b"hexdata bn") {
-        return Answer::Wrote(dataset::from_hex(v.bytes(request, 1), lent));
+        return Answer::Wrote(dataset_edits::from_hex(v.bytes(request, 1), lent));
     }
     if asks(request, b"tohex bn") {
-        return Answer::Wrote(dataset::to_hex(v.bytes(request, 1), lent));
+        return Answer::Wrote(dataset_edits::to_hex(v.bytes(request, 1), lent));
     }
     if asks(request, b"maskitem tbn") {
-        return Answer::Wrote(values::write_mask_item(v.type_byte(1), v.bytes(request, 2), lent));
+        return Answer::Wrote(channel_masks::write_mask_item(
+            v.type_byte(1),
+            v.bytes(request, 2),
+            lent,
+        ));
     }
     list_calls(request, v, lent)
 }

@@ -101,10 +101,10 @@ pub(crate) fn framing_texts(request: &Room, v: Values, text: &mut Room, at: usiz
 
 pub(crate) fn framing_calls(request: &Room, v: Values, lent: &mut [u8]) -> Answer {
     if asks(request, b"rewrite bn") {
-        return Answer::Wrote(tlv::rewrite(v.bytes(request, 1), lent));
+        return Answer::Wrote(tlv_writing::rewrite(v.bytes(request, 1), lent));
     }
     if asks(request, b"entry tbn") {
-        return Answer::Wrote(tlv::write_entry(v.type_byte(1), v.bytes(request, 2), lent));
+        return Answer::Wrote(tlv_writing::write_entry(v.type_byte(1), v.bytes(request, 2), lent));
     }
     hex_calls(request, v, lent)
 }

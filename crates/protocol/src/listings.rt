@@ -6,11 +6,8 @@ use crate::requests::Values;
 use crate::requests::asks;
 use texts::Room;
 
-// More than a report can have.
-const REPORT: u64 = 8192;
-
 pub(crate) fn put_report(text: &mut Room, at: usize, input: &[u8], out: &mut [u8]) -> usize {
-    let n = lend(out, REPORT);
+    let n = lend(out, listing::REPORT_BYTES as u64);
     let written = listing::report_text(input, &mut out[0..n]);
     put_written(text, at, written, &out[0..n])
 }

@@ -1,4 +1,6 @@
 // The text of a channel mask: how many items, then page and bytes of each.
+use channel_masks::MaskItem;
+use channel_masks::ReadMask;
 use texts::Room;
 use texts::part_of;
 use texts::put_absent;
@@ -7,8 +9,6 @@ use texts::put_hex;
 use texts::put_marked;
 use texts::put_one;
 use texts::put_refusal;
-use values::MaskItem;
-use values::ReadMask;
 
 fn put_item(text: &mut Room, at: usize, page: u8, mask: &[u8]) -> usize {
     let first = put_marked(text, at, b' ', page as usize);
@@ -20,7 +20,7 @@ fn put_items(text: &mut Room, at: usize, value: &[u8]) -> usize {
     let mut next = at;
     let mut place: usize = 0;
     loop {
-        match values::mask_item_at(value, place) {
+        match channel_masks::mask_item_at(value, place) {
             MaskItem::Item { page, start, len } => {
                 let end = start + len;
                 next = put_item(text, next, page, part_of(value, start, end));

@@ -8,11 +8,11 @@ use texts::put_bytes_value;
 use texts::put_number;
 use texts::put_one;
 use texts::put_text;
+use timestamps::Timestamp;
 use values::Channel;
 use values::SecurityPolicy;
 use values::SecurityPolicyFlags;
 use values::ThreadProtocolVersion;
-use values::Timestamp;
 
 fn version_of(number: u64) -> ThreadProtocolVersion {
     match number {

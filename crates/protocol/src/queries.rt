@@ -17,9 +17,9 @@ use dataset::channel_mask_value;
 use dataset::network_name;
 use dataset::network_name_value;
 use texts::Room;
+use timestamps::Timestamp;
 use values::Channel;
 use values::SecurityPolicy;
-use values::Timestamp;
 
 pub(crate) fn query_texts(request: &Room, v: Values, text: &mut Room, at: usize) -> usize {
     let s = v.bytes(request, 1);
@@ -93,22 +93,22 @@ fn number_values(request: &Room, v: Values, text: &mut Room, at: usize) -> usize
 fn byte_values(request: &Room, v: Values, text: &mut Room, at: usize) -> usize {
     let s = v.bytes(request, 1);
     if asks(request, b"v.extpanid b") {
-        return put_array_8(text, at, dataset::read_array_8(s, 0));
+        return put_array_8(text, at, plain_values::read_array_8(s, 0));
     }
     if asks(request, b"v.mlprefix b") {
-        return put_array_8(text, at, dataset::read_array_8(s, 0));
+        return put_array_8(text, at, plain_values::read_array_8(s, 0));
     }
     if asks(request, b"v.key b") {
-        return put_array_16(text, at, dataset::read_array_16(s, 0));
+        return put_array_16(text, at, plain_values::read_array_16(s, 0));
     }
     if asks(request, b"v.name b") {
-        return put_checked(text, at, dataset::check_name(s, 0), s);
+        return put_checked(text, at, plain_values::check_name(s, 0), s);
     }
     if asks(request, b"v.pskc b") {
-        return put_checked(text, at, dataset::check_bytes(s), s);
+        return put_checked(text, at, plain_values::check_bytes(s), s);
     }
     if asks(request, b"v.mask b") {
-        return put_mask(text, at, values::count_mask_items(s, 0), s);
+        return put_mask(text, at, channel_masks::count_mask_items(s, 0), s);
     }
     part_texts(request, v, text, at)
 }

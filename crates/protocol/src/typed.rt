@@ -1,7 +1,7 @@
 // The text of each kind of typed answer.
-use dataset::Array8;
-use dataset::Array16;
-use dataset::Checked;
+use plain_values::Array8;
+use plain_values::Array16;
+use plain_values::Checked;
 use texts::Room;
 use texts::put_absent;
 use texts::put_bytes_value;
@@ -9,11 +9,11 @@ use texts::put_one;
 use texts::put_refusal;
 use texts::put_three;
 use texts::put_two;
+use timestamps::ReadTimestamp;
+use timestamps::Timestamp;
 use tlv::Found;
 use values::ReadChannel;
 use values::ReadPolicy;
-use values::ReadTimestamp;
-use values::Timestamp;
 use wire::Read16;
 use wire::Read32;
 

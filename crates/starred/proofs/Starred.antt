@@ -4,7 +4,7 @@ use Rattle.refusal.specs.Every.{Every}
 use Rattle.wire.specs.Be.{beFrom, be, bytesOf}
 use Rattle.tlv.specs.Entries.{valued, long, first, contents, step, frames, framing}
 use Rattle.tlv.specs.Limits.{limited, framed}
-use Rattle.tlv.specs.Encode.{header, encode, encodeAll, keepsOf, kept, rewritten, setLast, sized}
+use Rattle.tlv_writing.specs.Encode.{header, encode, encodeAll, keepsOf, kept, rewritten, setLast, sized}
 use Rattle.values.specs.Threshold.{threshold, withThreshold}
 use Rattle.changes.specs.Operations.{setOf, removalOf, firstOp, opStep, opsIn, opsOf, bare, limitedOps, operations}
 use Rattle.changes.specs.Fold.{about, touches, lasts, setsOf, removes, removalsBelow, types, foldAll, encodeOp, encodeOps, sizedOps, folded}

@@ -5,7 +5,7 @@ use mathlib.Core.List.{List, [], _∷_, _++_}
 use lib.ListN.{length}
 use Rattle.refusal.specs.Answer.{Answer, onGiven}
 use Rattle.tlv.specs.Entries.{Entry}
-use Rattle.values.specs.Typed.{bitOf}
+use Rattle.timestamps.specs.Timestamps.{bitOf}
 use Rattle.values.specs.declared.ThreadProtocolVersion.{ThreadProtocolVersion}
 use Rattle.values.specs.declared.ThreadProtocolVersion.the-variants as v
 use Rattle.diag_values.specs.Routes.{routeRows}

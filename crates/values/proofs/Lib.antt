@@ -1,5 +1,4 @@
 pub mod Parses
 pub mod Thresholds
-pub mod Items
 pub mod Round
 pub mod Papers

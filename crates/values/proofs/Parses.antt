@@ -1,14 +1,11 @@
--- What the reads of typed values cite: two bytes of a value of known length as a number, and a timestamp as the number that it is.
+-- What the reads of a channel and a policy cite: two bytes of a value of known length as a number.
 -- Assumes nothing.
-use mathlib.Core.Path.{_≡_, refl}
+use mathlib.Core.Path.{_≡_}
 use mathlib.Core.List.{List, [], _∷_}
 use Prim.Native.Nat.{ℕ, _+_, _*_}
 use native.Mathlib.Omega.{arith}
 use lib.ListN.{length, take, drop, getD}
-use Rattle.refusal.specs.Answer.{Answer, given, absent, refused, onGiven}
-use Rattle.wire.specs.Be.{be, beFrom, ruled, fixed}
-use Rattle.values.specs.Typed.{timestampOf}
-use Rattle.values.specs.declared.Timestamp.{Timestamp}
+use Rattle.wire.specs.Be.{be, beFrom}
 
 pub two-of-three : (v : List ℕ) → length v ≡ 3 → getD v 1 0 * 256 + getD v 2 0 ≡ be (drop 1 v)
 unfolding be beFrom
@@ -26,15 +23,3 @@ two-and-two (a ∷ b ∷ []) h = absurd (omega arith)
 two-and-two (a ∷ b ∷ c ∷ []) h = absurd (omega arith)
 two-and-two (a ∷ b ∷ c ∷ d ∷ []) h = (omega arith, omega arith)
 two-and-two (a ∷ b ∷ c ∷ d ∷ e ∷ r) h = absurd (omega arith)
-
-abbrev pub stamp : ℕ → Timestamp
-stamp x = record { 0 = x }
-
-stamp-by : (a : Answer (List ℕ)) → onGiven stamp (onGiven be a) ≡ onGiven timestampOf a
-stamp-by (given v) = refl
-stamp-by absent = refl
-stamp-by (refused n p i) = refl
-
-pub stamped : (place : ℕ) (v : List ℕ) → onGiven stamp (fixed 8 place v) ≡ onGiven timestampOf (ruled 8 place v)
-unfolding fixed
-stamped place v = stamp-by (ruled 8 place v)

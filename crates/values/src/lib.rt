@@ -1,25 +1,16 @@
-// The typed values of a dataset (dataset.rs): channel, timestamp, security policy, channel mask items; each read from its bytes and written.
-use refusal::Fault;
+// The channel and the security policy of a dataset (dataset.rs), each read from its bytes and written.
 use refusal::Refusal;
-use refusal::Written;
-use wire::Read64;
 ghost use mathlib.Core.Path.{_≡_};
 ghost use Prim.Native.Nat.{_+_, _*_};
-ghost use lib.ListN.{length};
 ghost use Rattle.refusal.specs.Answer.{onGiven};
-ghost use Rattle.refusal.specs.Output.{output, emit, writtenAnswer};
 ghost use Rattle.wire.specs.Be.{ruled};
-ghost use Rattle.values.specs.Typed.{channelOf, channelBytes, channelAnswer, timestampOf, timestampBytes, timestampAnswer, built, secondsOf, ticksOf, authoritativeOf, policyOf, policyBytes, policyAnswer};
+ghost use Rattle.values.specs.Typed.{channelOf, channelBytes, channelAnswer, policyOf, policyBytes, policyAnswer};
 ghost use Rattle.values.specs.Threshold.{hasAll, threshold, withThreshold};
-ghost use Rattle.values.specs.Mask.{items, itemAt, itemWritten, maskAnswer};
 
 pub struct Channel {
     pub page: u8,
     pub channel: u16,
 }
-
-// Seconds times 65,536, plus ticks times 2, plus the authoritative bit.
-pub struct Timestamp(pub u64);
 
 pub struct SecurityPolicyFlags(pub u16);
 
@@ -48,28 +39,8 @@ pub enum ReadChannel {
     Refused(Refusal),
 }
 
-pub enum ReadTimestamp {
-    Value(Timestamp),
-    Absent,
-    Refused(Refusal),
-}
-
 pub enum ReadPolicy {
     Value(SecurityPolicy),
-    Absent,
-    Refused(Refusal),
-}
-
-// What stands at a place of a channel mask: an item, whose bytes are the len bytes from start on; one that is cut short; or nothing.
-pub enum MaskItem {
-    Item { page: u8, start: usize, len: usize },
-    Cut,
-    End,
-}
-
-// How many items a channel mask has.
-pub enum ReadMask {
-    Items(usize),
     Absent,
     Refused(Refusal),
 }
@@ -101,67 +72,6 @@ impl Channel {
     {
         let number = self.channel;
         [self.page, (number / 256 % 256) as u8, (number % 256) as u8]
-    }
-}
-
-impl Timestamp {
-    pub fn from_raw(raw: u64) -> Timestamp
-        ensures { λ r. ⌜ r .0 ≡ raw ⌝ }
-    {
-        Timestamp(raw)
-    }
-
-    // Keeps seconds modulo 2^48 and ticks modulo 32,768.
-    pub fn from_components(seconds: u64, ticks: u16, authoritative: bool) -> Timestamp
-        ensures { λ r. ⌜ r .0 ≡ built seconds ticks authoritative ⌝ }
-    {
-        let whole = seconds % 281474976710656 * 65536 + (ticks % 32768) as u64 * 2;
-        if authoritative {
-            return Timestamp(whole + 1);
-        }
-        Timestamp(whole)
-    }
-
-    // The timestamp that a value of 8 bytes holds. Refusals: 1, then 4 at the place of its entry.
-    pub fn parse(value: &[u8], place: usize) -> ReadTimestamp
-        ensures { λ r. ⌜ timestampAnswer r ≡ onGiven timestampOf (ruled 8 place (now (value .entry))) ⌝ }
-    {
-        match wire::read_u64(value, place) {
-            Read64::Value(x) => ReadTimestamp::Value(Timestamp(x)),
-            Read64::Absent => ReadTimestamp::Absent,
-            Read64::Refused(r) => ReadTimestamp::Refused(r),
-        }
-    }
-
-    pub fn raw(self) -> u64
-        ensures { λ r. ⌜ r ≡ self .0 ⌝ }
-    {
-        let raw = self.0;
-        raw
-    }
-
-    pub fn seconds(self) -> u64
-        ensures { λ r. ⌜ r ≡ secondsOf (self .0) ⌝ }
-    {
-        self.0 / 65536
-    }
-
-    pub fn ticks(self) -> u16
-        ensures { λ r. ⌜ r ≡ ticksOf (self .0) ⌝ }
-    {
-        (self.0 / 2 % 32768) as u16
-    }
-
-    pub fn authoritative(self) -> bool
-        ensures { λ r. ⌜ r ≡ authoritativeOf (self .0) ⌝ }
-    {
-        self.0 % 2 == 1
-    }
-
-    pub fn to_value(self) -> [u8; 8]
-        ensures { λ r. ⌜ r ≡ timestampBytes self ⌝ }
-    {
-        wire::u64_bytes(self.0)
     }
 }
 
@@ -269,87 +179,4 @@ impl SecurityPolicy {
             (bits % 256) as u8,
         ]
     }
-}
-
-// What stands at a place of a channel mask: the step of a walk over its items.
-pub fn mask_item_at(value: &[u8], at: usize) -> MaskItem
-    ensures { λ r. ⌜ r ≡ itemAt (now (value .entry)) at ⌝ }
-{
-    let n = value.len();
-    if n <= at {
-        return MaskItem::End;
-    }
-    if n <= at + 1 {
-        return MaskItem::Cut;
-    }
-    let len = value[at + 1] as usize;
-    if at + 2 + len <= n {
-        return MaskItem::Item {
-            page: value[at],
-            start: at + 2,
-            len: len,
-        };
-    }
-    MaskItem::Cut
-}
-
-// How many items a channel mask has. Refusals: 1, then 5 at the place of its entry, which is 0 for a bare value.
-pub fn count_mask_items(value: &[u8], place: usize) -> ReadMask
-    ensures { λ r. ⌜ maskAnswer r ≡ onGiven length (items place (now (value .entry))) ⌝ }
-{
-    if value.len() > refusal::MAX_BYTES {
-        return ReadMask::Refused(Refusal {
-            fault: Fault::TooLarge,
-            place: 0,
-            input: 0,
-        });
-    }
-    let mut n: usize = 0;
-    let mut at: usize = 0;
-    loop {
-        match mask_item_at(value, at) {
-            MaskItem::Item {
-                page: _,
-                start,
-                len,
-            } => {
-                n += 1;
-                at = start + len;
-            }
-            MaskItem::Cut => {
-                return ReadMask::Refused(Refusal {
-                    fault: Fault::ItemCut,
-                    place: place,
-                    input: 0,
-                });
-            }
-            MaskItem::End => {
-                return ReadMask::Items(n);
-            }
-        }
-    }
-}
-
-// One item of a channel mask at the start of out. Refusals: 13, 11.
-pub fn write_mask_item(page: u8, mask: &[u8], out: &mut [u8]) -> Written
-    ensures { λ r. ⌜ output (writtenAnswer r) (now (out .exit)) ≡ emit (itemWritten page (now (mask .entry))) (now (out .entry)) ⌝ }
-{
-    let n = mask.len();
-    if n > 255 {
-        return Written::Refused(Refusal {
-            fault: Fault::ValueTooLong,
-            place: 0,
-            input: 0,
-        });
-    }
-    if n + 2 > out.len() {
-        return Written::Refused(Refusal {
-            fault: Fault::NoRoom,
-            place: 0,
-            input: 0,
-        });
-    }
-    out[0] = page;
-    out[1] = n as u8;
-    Written::Bytes(wire::put_bytes(mask, out, 2))
 }

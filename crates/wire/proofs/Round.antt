@@ -1,6 +1,6 @@
 -- A number and its bytes, for every length k: what is written is read back, and what is read is written back.
 -- Assumes nothing.
-use mathlib.Core.Path.{_≡_, refl, _∙_}
+use mathlib.Core.Path.{_≡_, refl, sym, ap, _∙_}
 use mathlib.Core.List.{List, [], _∷_, _++_, append-assoc, append-nil}
 use Prim.Native.Nat.{ℕ, zero, suc, _+_, _*_, _/_, _%_, _^_, _<_}
 use native.Mathlib.Omega.{arith}
@@ -50,3 +50,7 @@ pub bytes-small : (k x : ℕ) → Bytes (bytesOf k x)
 unfolding bytesOf
 bytes-small zero x = tt
 bytes-small (suc k) x = every-append _ (bytesOf k (x / 256)) (x % 256 ∷ []) (bytes-small k (x / 256)) (omega arith, tt)
+
+-- as many bytes as there are
+pub bytes-read : (k : ℕ) (s : List ℕ) → length s ≡ k → Bytes s → bytesOf k (be s) ≡ s
+bytes-read k s l h = ap (λ (n : ℕ). bytesOf n (be s)) (sym l) ∙ bytes-be s h

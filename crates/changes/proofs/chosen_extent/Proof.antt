@@ -9,12 +9,12 @@ use native.Mathlib.Nat.{zero-add}
 use lib.ListN.{length}
 use borrow.Author.Needs.{needs}
 use Rattle.tlv.specs.Entries.{Content}
-use Rattle.tlv.specs.Encode.{encodeAll}
-use Rattle.tlv.proofs.Encodes.{size-bound}
+use Rattle.tlv_writing.specs.Encode.{encodeAll}
+use Rattle.tlv_writing.proofs.Encodes.{size-bound}
 use Rattle.changes.specs.Loops.{extentOf}
 use Rattle.changes.proofs.Places.{turn-none, set-within, removal-inside, set-ops, removal-ops}
 use Rattle.changes.proofs.Turns.{chosenFrom, chosen-start, chosen-end, chosen-set, chosen-not, chosen-removal}
-use Rattle.tlv.proofs.Kept.{encode-none}
+use Rattle.tlv_writing.proofs.Kept.{encode-none}
 use Rattle.changes.proofs.Writes.{all-length, extent-is}
 use Rattle.changes.proofs.chosen_extent.Statement.{statement}
 use Rattle.changes.proofs.chosen_extent.Tie as tie

@@ -6,7 +6,7 @@ use lib.ListN.{length-set}
 use borrow.Author.Needs.{needs}
 use Rattle.laws.proofs.Emits.{placed-next, placed-left}
 use Rattle.tlv.specs.Entries.{content}
-use Rattle.tlv.proofs.Encodes.{entry-placed}
+use Rattle.tlv_writing.proofs.Encodes.{entry-placed}
 use Rattle.changes.proofs.Removals.{set-length, set-stored, plain-is}
 use Rattle.changes.proofs.put_set.Statement.{statement}
 use Rattle.changes.proofs.put_set.Tie as tie

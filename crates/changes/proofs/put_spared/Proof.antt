@@ -11,10 +11,10 @@ use Rattle.refusal.specs.Output.{put}
 use Rattle.laws.proofs.Parts.{length-part}
 use Rattle.laws.proofs.Puts.{put-none, put-then}
 use Rattle.laws.proofs.Emits.{placed-next, placed-left}
-use Rattle.tlv.specs.Encode.{encodeAll}
+use Rattle.tlv_writing.specs.Encode.{encodeAll}
 use Rattle.tlv.proofs.Walks.{turn-entries, turn-none, turn-inside}
-use Rattle.tlv.proofs.Encodes.{entry-placed}
-use Rattle.tlv.proofs.Kept.{encode-none, encode-more, size-part}
+use Rattle.tlv_writing.proofs.Encodes.{entry-placed}
+use Rattle.tlv_writing.proofs.Kept.{encode-none, encode-more, size-part}
 use Rattle.changes.proofs.Writes.{all-length, sparedFrom, spared-start, spared-end, spared-keep, spared-skip}
 use Rattle.changes.proofs.put_spared.Statement.{statement}
 use Rattle.changes.proofs.put_spared.Tie as tie

@@ -12,10 +12,10 @@ use Rattle.refusal.specs.Answer.{given, onGiven}
 use Rattle.laws.proofs.Emits.{emit-refused, emit-no-room, emit-done}
 use Rattle.tlv.specs.Entries.{Content, contents, framing}
 use Rattle.tlv.specs.Limits.{count}
-use Rattle.tlv.specs.Encode.{encodeAll, sized}
+use Rattle.tlv_writing.specs.Encode.{encodeAll, sized}
 use Rattle.tlv.specs.Answers.{countedAnswer}
 use Rattle.tlv.proofs.Tally as tally
-use Rattle.tlv.proofs.Sets.{sized-bytes, sized-count, sized-is}
+use Rattle.tlv_writing.proofs.Sets.{sized-bytes, sized-count, sized-is}
 use Rattle.changes.specs.Operations.{operations}
 use Rattle.changes.specs.Run.{ran}
 use Rattle.changes.specs.Loops.{opsAfter, spared, chosen, encodeSets}

@@ -2,7 +2,7 @@
 -- Assumes nothing.
 use borrow.Author.Needs.{needs}
 use borrow.Author.Tests.{le-leb, lt-leb}
-use Rattle.tlv.specs.Encode.{sizeOf}
+use Rattle.tlv_writing.specs.Encode.{sizeOf}
 use Rattle.changes.proofs.size_of.Statement.{statement}
 use Rattle.changes.proofs.size_of.Tie as tie
 

@@ -9,11 +9,11 @@ use native.Mathlib.Nat.{zero-add}
 use lib.ListN.{length}
 use borrow.Author.Needs.{needs}
 use Rattle.tlv.specs.Entries.{Content}
-use Rattle.tlv.specs.Encode.{encodeAll}
+use Rattle.tlv_writing.specs.Encode.{encodeAll}
 use Rattle.tlv.proofs.Walks.{turn-entries, turn-none, turn-inside}
-use Rattle.tlv.proofs.Encodes.{size-bound}
+use Rattle.tlv_writing.proofs.Encodes.{size-bound}
 use Rattle.changes.specs.Loops.{extentOf}
-use Rattle.tlv.proofs.Kept.{encode-none}
+use Rattle.tlv_writing.proofs.Kept.{encode-none}
 use Rattle.changes.proofs.Writes.{all-length, extent-is, sparedFrom, spared-start, spared-end, spared-keep, spared-skip}
 use Rattle.changes.proofs.spared_extent.Statement.{statement}
 use Rattle.changes.proofs.spared_extent.Tie as tie

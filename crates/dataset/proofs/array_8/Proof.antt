@@ -3,7 +3,7 @@
 use mathlib.Core.Path.{ap, _∙_}
 use native.Mathlib.Omega.{arith}
 use native.Mathlib.Nat.{add-sub-cancel-left}
-use Rattle.dataset.specs.Answers.{zeros, copied}
+use Rattle.plain_values.specs.Plain.{zeros, copied}
 use Rattle.dataset.proofs.Finds.{found-inside, query-whole, query-none, query-refused}
 use borrow.Author.Needs.{needs}
 use Rattle.dataset.proofs.array_8.Statement.{statement}

@@ -7,7 +7,7 @@ use Rattle.speed.proofs.speed_rewrite.Tie as tie
 use Rattle.speed.proofs.speed_rewrite.Reads as reads
 use Rattle.speed.proofs.speed_rewrite.Lts as lts
 use Rattle.speed.proofs.coded.Reads as coded-reads
-use Rattle.tlv.proofs.rewrite.Reads as rewrite-reads
+use Rattle.tlv_writing.proofs.rewrite.Reads as rewrite-reads
 
 rewrite-requires : tie.Need-rewrite-requires
 rewrite-requires c κs = search needs

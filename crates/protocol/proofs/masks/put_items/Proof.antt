@@ -3,7 +3,7 @@ use Prim.Native.Nat.{_≤_, _-_}
 use lib.ListN.{length}
 use native.Mathlib.Omega.{arith}
 use borrow.Author.Needs.{needs}
-use Rattle.values.proofs.Items.{turn-inside}
+use Rattle.channel_masks.proofs.Items.{turn-inside}
 use Rattle.protocol.proofs.masks.put_items.Statement.{statement}
 use Rattle.protocol.proofs.masks.put_items.Tie as tie
 

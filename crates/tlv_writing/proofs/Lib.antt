@@ -1,0 +1,4 @@
+pub mod Encodes
+pub mod Kept
+pub mod Sets
+pub mod Round

@@ -1,0 +1,116 @@
+-- `tlv::kept_extent` meets its contract. The invariant: what is counted, and what the entries from at on take, is what all take.
+-- The measure is what is left of the input.
+-- Assumes nothing.
+use mathlib.Core.Path.{_≡_, sym, ap, _∙_}
+use mathlib.Core.List.{List}
+use Prim.Native.Nat.{_+_, _*_, _-_, _≤_}
+use native.Mathlib.Omega.{arith}
+use native.Mathlib.Nat.{zero-add}
+use lib.ListN.{length}
+use borrow.Author.Needs.{needs}
+use Rattle.tlv.specs.Entries.{Content}
+use Rattle.tlv_writing.specs.Encode.{encodeAll}
+use Rattle.tlv_writing.specs.Loops.{extentOf}
+use Rattle.tlv.proofs.Walks.{turn-entries, turn-none, turn-inside}
+use Rattle.tlv_writing.proofs.Encodes.{size-bound}
+use Rattle.tlv_writing.proofs.Kept.{keptFrom, kept-start, kept-end, encode-none, turn-skip, length-keep, count-keep, extent-is}
+use Rattle.tlv_writing.proofs.kept_extent.Statement.{statement}
+use Rattle.tlv_writing.proofs.kept_extent.Tie as tie
+
+abbrev Inv-loop : tie.InvT-loop
+Inv-loop s c bytes₀ entries₀ at₀ bytes entries at =
+    (at ≤ length s) × (bytes ≤ 2 * at) × (entries ≤ at)
+    × (bytes + length (encodeAll (keptFrom c s at)) ≡ length (encodeAll (keptFrom c s 0)))
+    × (entries + length (keptFrom c s at) ≡ length (keptFrom c s 0))
+
+abbrev μ-loop : tie.MeasureT-loop
+μ-loop s c bytes₀ entries₀ at₀ bytes entries at = length s - at
+
+loop-holds : tie.Need-loop-holds Inv-loop μ-loop
+loop-holds c = (search needs, search needs, search needs, zero-add _, zero-add _)
+
+frame-at-requires : tie.Need-frame-at-requires Inv-loop μ-loop
+frame-at-requires c κs = tt
+
+enum-known-ty : tie.Need-enum-known-ty Inv-loop μ-loop
+enum-known-ty c = search needs
+
+add-end : tie.Need-add-end Inv-loop μ-loop
+add-end c =
+    let t = c .before in
+    omega (arith, turn-inside _ _ _ (t .before .before .frame-at .ensures) _ _ _ (t .ty .given .1))
+
+keeps-requires : tie.Need-keeps-requires Inv-loop μ-loop
+keeps-requires c κs = tt
+
+size-of-requires : tie.Need-size-of-requires Inv-loop μ-loop
+size-of-requires c κs =
+    let t = c .before .before .before in
+    omega (arith, turn-inside _ _ _ (t .before .before .frame-at .ensures) _ _ _ (t .ty .given .1))
+
+add-bytes : tie.Need-add-bytes Inv-loop μ-loop
+add-bytes c =
+    let t = c .before .before .before .before in
+    omega (arith, turn-inside _ _ _ (t .before .before .frame-at .ensures) _ _ _ (t .ty .given .1), c .size-of .ensures, size-bound (t .ty .given .0 .1 .1 .0))
+
+add-entries : tie.Need-add-entries Inv-loop μ-loop
+add-entries c =
+    let t = c .before .before .before .before in
+    omega (arith, turn-inside _ _ _ (t .before .before .frame-at .ensures) _ _ _ (t .ty .given .1))
+
+loop-less : tie.Need-loop-less Inv-loop μ-loop
+loop-less c =
+    let t = c .before .before .before .before in
+    omega (arith, turn-inside _ _ _ (t .before .before .frame-at .ensures) _ _ _ (t .ty .given .1))
+
+loop-again : tie.Need-loop-again Inv-loop μ-loop
+loop-again c =
+    let t = c .before .before .before .before in
+    let found = t .before .before .frame-at .ensures in
+    let inside = turn-inside _ _ _ found _ _ _ (t .ty .given .1) in
+    let entries = turn-entries _ _ _ found _ _ _ (t .ty .given .1) in
+    let n = t .ty .given .0 .1 .1 .0 in
+    let kept = sym (c .before .before .keeps .ensures) ∙ c .before .if1 .taken in
+    omega (arith, size-bound n, length-keep _ _ _ _ _ n entries (inside .1) kept, count-keep _ _ _ _ _ n entries kept, c .size-of .ensures)
+
+loop-less-2 : tie.Need-loop-less-2 Inv-loop μ-loop
+loop-less-2 c =
+    let t = c .before .before .before in
+    omega (arith, turn-inside _ _ _ (t .before .before .frame-at .ensures) _ _ _ (t .ty .given .1))
+
+loop-again-2 : tie.Need-loop-again-2 Inv-loop μ-loop
+loop-again-2 c =
+    let t = c .before .before .before in
+    let found = t .before .before .frame-at .ensures in
+    let inside = turn-inside _ _ _ found _ _ _ (t .ty .given .1) in
+    let entries = turn-entries _ _ _ found _ _ _ (t .ty .given .1) in
+    let skip = turn-skip _ _ _ _ _ (t .ty .given .0 .1 .1 .0) entries (sym (c .before .keeps .ensures) ∙ c .if1 .left) in
+    omega (arith, ap length skip, ap (λ (cs : List Content). length (encodeAll cs)) skip)
+
+returns : tie.Need-returns Inv-loop μ-loop
+returns c =
+    let a = c .before .before .before .before .args in
+    let none = kept-end (a .c) _ _ (turn-none _ _ _ (c .before .frame-at .ensures) (c .match .keys2)) in
+    let bytes = ap length (ap encodeAll none ∙ encode-none) in
+    let entries = ap length none in
+    (extent-is _ _ (keptFrom (a .c) (a .s .now) 0) (omega arith) (omega arith) ∙ ap extentOf (kept-start _ _), omega arith)
+
+pub kept-extent-spec : {M : Type 1} → statement M
+kept-extent-spec =
+    tie.close
+    (tie.spec
+    Inv-loop
+    μ-loop
+    loop-holds
+    frame-at-requires
+    enum-known-ty
+    add-end
+    keeps-requires
+    size-of-requires
+    add-bytes
+    add-entries
+    loop-less
+    loop-again
+    loop-less-2
+    loop-again-2
+    returns)

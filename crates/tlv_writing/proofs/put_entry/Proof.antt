@@ -1,0 +1,54 @@
+-- `tlv::put_entry` meets its contract: the tests say whether the entry is written, and then the header and the value are.
+-- Assumes nothing.
+use mathlib.Core.Path.{_∙_}
+use native.Mathlib.Omega.{arith}
+use Rattle.tlv_writing.proofs.Encodes.{too-long-placed, no-room-placed, value-placed}
+use borrow.Author.Needs.{needs}
+use Rattle.tlv_writing.proofs.put_entry.Statement.{statement}
+use Rattle.tlv_writing.proofs.put_entry.Tie as tie
+
+returns : tie.Need-returns
+returns c = too-long-placed _ _ _ _ (c .if1 .taken)
+
+returns-2 : tie.Need-returns-2
+returns-2 c = no-room-placed _ _ _ _ (c .before .if1 .left) (omega arith)
+
+size-of-requires : tie.Need-size-of-requires
+size-of-requires c κs = search needs
+
+sub-if3 : tie.Need-sub-if3
+sub-if3 c = search needs
+
+returns-3 : tie.Need-returns-3
+returns-3 c = no-room-placed _ _ _ _ (c .before .before .before .if1 .left) (omega (arith, c .before .size-of .ensures))
+
+put-header-requires : tie.Need-put-header-requires
+put-header-requires c κs = search needs
+
+put-bytes-requires : tie.Need-put-bytes-requires
+put-bytes-requires c κs = search needs
+
+same-length : tie.Need-same-length
+same-length c = search needs
+
+returns-4 : tie.Need-returns-4
+returns-4 c =
+    let b = c .before .before in
+    let h = b .before .before .before .before in
+    let z = h .before .before .before in
+    let e = z .before in
+    b .put-bytes .ensures ∙ value-placed _ _ _ _ _ _ (h .put-header .ensures .1) (h .put-header .ensures .0) (e .before .if1 .left) (omega (arith, z .size-of .ensures))
+
+pub put-entry-spec : {M : Type 1} → statement M
+put-entry-spec =
+    tie.close
+    (tie.spec
+    returns
+    returns-2
+    size-of-requires
+    sub-if3
+    returns-3
+    put-header-requires
+    put-bytes-requires
+    same-length
+    returns-4)
