@@ -27,10 +27,9 @@ pub fn entry(ty: u8, value: &[u8], long_header: bool) -> Vec<u8> {
 /// A random dataset: most are small and whole, some damaged, some of about 128 entries, few of about 8,192 bytes.
 pub fn dataset(random: &mut Random) -> Vec<u8> {
     let whole = if random.once_in(1_000) {
-        long_dataset(random)
+        of_about_most_bytes(random, whole_dataset)
     } else if random.once_in(12) {
-        let entries = near_most_entries(random);
-        dataset_of_entries(random, entries)
+        of_about_most_entries(random, dataset_of_entries)
     } else if random.once_in(60) {
         let entries = random.between(1, 3);
         let bytes = random.between(250, 270);
@@ -39,6 +38,38 @@ pub fn dataset(random: &mut Random) -> Vec<u8> {
         small_dataset(random)
     };
     damaged(random, whole)
+}
+
+/// Makes a dataset, a payload or a list of so many entries or operations and of so many bytes.
+type OfBytes = fn(&mut Random, usize, usize) -> Vec<u8>;
+
+/// Makes one of so many entries or operations.
+type OfEntries = fn(&mut Random, usize) -> Vec<u8>;
+
+/// One of each size: `long` in 1,000 are of about 8,192 bytes, 60 of about 128 entries, all others small.
+pub fn of_each_size(
+    random: &mut Random,
+    long: usize,
+    of_bytes: OfBytes,
+    of_entries: OfEntries,
+    small: fn(&mut Random) -> Vec<u8>,
+) -> Vec<u8> {
+    match random.below(1_000) {
+        number if number < long => of_about_most_bytes(random, of_bytes),
+        number if number < long + 60 => of_about_most_entries(random, of_entries),
+        _ => small(random),
+    }
+}
+
+fn of_about_most_bytes(random: &mut Random, of_bytes: OfBytes) -> Vec<u8> {
+    let bytes = near_most_bytes(random);
+    let entries = random.between(1, MOST_ENTRIES + 2);
+    of_bytes(random, entries, bytes)
+}
+
+fn of_about_most_entries(random: &mut Random, of_entries: OfEntries) -> Vec<u8> {
+    let entries = near_most_entries(random);
+    of_entries(random, entries)
 }
 
 /// A number of entries of about 128, more of them over than not.
@@ -59,12 +90,6 @@ pub fn near_most_bytes(random: &mut Random) -> usize {
         1 => MOST_BYTES,
         _ => random.between(MOST_BYTES - 2, MOST_BYTES + 2),
     }
-}
-
-fn long_dataset(random: &mut Random) -> Vec<u8> {
-    let bytes = near_most_bytes(random);
-    let entries = random.between(1, MOST_ENTRIES + 2);
-    whole_dataset(random, entries, bytes)
 }
 
 fn small_dataset(random: &mut Random) -> Vec<u8> {

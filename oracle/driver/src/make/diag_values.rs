@@ -2,6 +2,7 @@
 
 use super::datasets::HEADER_EDGES;
 use super::network::{faulty_network_data, network_data, network_data_edges, network_data_of_size};
+use super::typed::of_other_length;
 use crate::random::Random;
 use crate::rules::NETWORK_DATA;
 
@@ -76,15 +77,7 @@ pub fn fitting(random: &mut Random, ty: u8) -> Vec<u8> {
 /// A value that does not fit; where there is no such value, any.
 pub fn misfit(random: &mut Random, ty: u8) -> Vec<u8> {
     match rule_of(ty) {
-        Rule::Length(length) => {
-            let other = match random.below(4) {
-                0 => length - 1,
-                1 => length + 1,
-                2 => random.below(2 * length + 4),
-                _ => random.pick(&[0, 1, 2, 3, 4, 8, 36, 254, 255, 256]),
-            };
-            random.bytes(other)
-        }
+        Rule::Length(length) => of_other_length(random, length, 36),
         Rule::AtLeast(length) => {
             let fewer = random.below(length);
             random.bytes(fewer)

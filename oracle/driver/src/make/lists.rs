@@ -1,8 +1,6 @@
 //! Change lists for requests: random ones, whole or damaged, and those at each boundary.
 
-use super::datasets::{
-    HEADER_EDGES, TYPES, damaged, entry, near_most_bytes, near_most_entries, whole_dataset, without_last,
-};
+use super::datasets::{HEADER_EDGES, TYPES, damaged, entry, of_each_size, whole_dataset, without_last};
 use super::short::{string, strings};
 use crate::framed;
 use crate::operations::{REMOVE_MARK, SET_MARK};
@@ -43,18 +41,7 @@ pub fn shaped_list(number: usize) -> Vec<u8> {
 
 /// A random list: most are small and whole, some damaged, some of about 128 operations, few of about 8,192 bytes.
 pub fn list(random: &mut Random) -> Vec<u8> {
-    let whole = match random.below(1_000) {
-        0..=5 => {
-            let bytes = near_most_bytes(random);
-            let operations = random.between(1, MOST_ENTRIES + 2);
-            whole_list(random, operations, bytes)
-        }
-        6..=65 => {
-            let operations = near_most_entries(random);
-            many_operations(random, operations)
-        }
-        _ => small_list(random),
-    };
+    let whole = of_each_size(random, 6, whole_list, many_operations, small_list);
     damaged(random, whole)
 }
 

@@ -1,6 +1,6 @@
 //! Diagnostic payloads for requests: random ones, whole or damaged, and those at each boundary.
 
-use super::datasets::{damaged, dataset_edges, entry, near_most_bytes, near_most_entries, without_last};
+use super::datasets::{damaged, dataset_edges, entry, of_each_size, without_last};
 use super::diag_values::{CHILD_ADDRESSES, TYPES, fitting, misfit, value, value_edges};
 use super::network::{bare_prefix, item, many_rows};
 use crate::random::Random;
@@ -15,18 +15,7 @@ const MISFIT_ONCE_IN: usize = 24;
 
 /// A random payload: most are small and whole, some damaged, some of about 128 entries, few of about 8,192 bytes.
 pub fn payload(random: &mut Random) -> Vec<u8> {
-    let whole = match random.below(1_000) {
-        0..=4 => {
-            let bytes = near_most_bytes(random);
-            let entries = random.between(1, MOST_ENTRIES + 2);
-            free_payload(random, entries, bytes)
-        }
-        5..=64 => {
-            let entries = near_most_entries(random);
-            payload_of_entries(random, entries)
-        }
-        _ => small_payload(random),
-    };
+    let whole = of_each_size(random, 5, free_payload, payload_of_entries, small_payload);
     if random.once_in(2) { whole } else { damaged(random, whole) }
 }
 

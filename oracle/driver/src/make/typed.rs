@@ -50,19 +50,22 @@ pub fn fitting(random: &mut Random, ty: u8) -> Vec<u8> {
 /// A value that does not fit, in most cases; where there is no such value, any.
 pub fn misfit(random: &mut Random, ty: u8) -> Vec<u8> {
     match rule_of(ty) {
-        Rule::Length(length) => {
-            let other = match random.below(4) {
-                0 => length - 1,
-                1 => length + 1,
-                2 => random.below(2 * length + 4),
-                _ => random.pick(&[0, 1, 2, 3, 4, 8, 16, 254, 255, 256]),
-            };
-            random.bytes(other)
-        }
+        Rule::Length(length) => of_other_length(random, length, 16),
         Rule::MaskItems => cut_mask(random),
         Rule::Utf8 => spoilt_text(random),
         Rule::Any => any(random),
     }
+}
+
+/// A value of another length, in most cases; `longest` is the greatest that a type of its kind has.
+pub fn of_other_length(random: &mut Random, length: usize, longest: usize) -> Vec<u8> {
+    let other = match random.below(4) {
+        0 => length - 1,
+        1 => length + 1,
+        2 => random.below(2 * length + 4),
+        _ => random.pick(&[0, 1, 2, 3, 4, 8, longest, 254, 255, 256]),
+    };
+    random.bytes(other)
 }
 
 fn any(random: &mut Random) -> Vec<u8> {
