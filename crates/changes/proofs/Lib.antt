@@ -7,7 +7,6 @@ pub mod Limits
 pub mod Effects
 pub mod Demand
 pub mod Calls
-pub mod Bench
 pub mod Papers
 pub mod Places
 pub mod Counts

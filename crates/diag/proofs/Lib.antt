@@ -7,4 +7,3 @@ pub mod Callers
 pub mod Lists
 pub mod Unknown
 pub mod Papers
-pub mod Bench

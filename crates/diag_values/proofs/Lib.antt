@@ -6,4 +6,3 @@ pub mod Routing
 pub mod Listing
 pub mod Within
 pub mod Papers
-pub mod Bench

@@ -6,4 +6,3 @@ pub mod Payloads
 pub mod Meaning
 pub mod Codes
 pub mod Papers
-pub mod Lines

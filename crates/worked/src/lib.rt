@@ -1,0 +1,1 @@
+// Worked lines of the working delay, diagnostic payloads and pairing, computed from the definitions: theorems only.
