@@ -63,3 +63,15 @@ module _ (out left : List ℕ) where
       apart same (λ r. cc))
   refuses absent n p i e = apart e (λ r. cc)
   refuses (refused m q j) n p i e = let same = answers e in itself (cc) (lefts e)
+
+  -- a refused call has changed nothing
+  pub refused-keeps : (a : Answer (List ℕ)) (n p i : ℕ) → output (refused n p i) left ≡ emit a out → left ≡ out
+  unfolding emit
+  refused-keeps (given bs) n p i e =
+      by-test (ltb (length out) (length bs))
+      (λ t. let same : output (refused n p i) left ≡ output (refused 11 0 0) out = e ∙ simp t in
+      lefts same)
+      (λ t. let same : output (refused n p i) left ≡ output (given (length bs)) (bs ++ drop (length bs) out) = e ∙ simp t in
+      apart same (λ r. cc))
+  refused-keeps absent n p i e = apart e (λ r. cc)
+  refused-keeps (refused m q j) n p i e = lefts e

@@ -2,7 +2,7 @@
 //
 // To add a call: where its answer is what it writes into an output whose size is its last word, one `if` in its topic's group of
 // `..._calls`; where its answer is a text of its own, one in a group of `..._texts`. A new group is asked by the last one. Such a function
-// needs no proof file unless it has a loop. A request that no group knows is a bad request.
+// needs no proof file unless it has a loop. A request that no group knows is a bad request. docs/USERS.md has an example of each.
 use crate::answers::put_answer;
 use crate::framing::framing_calls;
 use crate::framing::framing_texts;
