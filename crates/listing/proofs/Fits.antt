@@ -8,6 +8,7 @@ use lib.Seq.{length-take-le}
 use lib.Dec.{leb, eqb}
 use borrow.Author.Tests.{leb-true}
 use Rattle.laws.proofs.Tests.{pick-all}
+use Rattle.laws.proofs.Parts.{every-drop}
 use Rattle.refusal.specs.Every.{Every, Bytes}
 use Rattle.tlv.specs.Entries.{First, none, cut, one, valued, long, first, Entry, entry, Stop, clean, cutAt, Framing, step, frames, framing}
 
@@ -24,18 +25,13 @@ FirstFits s none = Unit {0}
 FirstFits s cut = Unit {0}
 FirstFits s (one t h v rest) = (t < 256) × Bytes rest × (h + length v + length rest ≤ length s)
 
-every-drop : (n : ℕ) (s : List ℕ) → Bytes s → Bytes (drop n s)
-every-drop zero s h = h
-every-drop (suc n) [] h = tt
-every-drop (suc n) (b ∷ s) h = every-drop n s (h .1)
-
 valued-fits : (s : List ℕ) (t h n : ℕ) (rest : List ℕ) → t < 256 → Bytes rest → h + length rest ≤ length s
     → FirstFits s (valued t h n rest)
 unfolding valued
 valued-fits s t h n rest k b e =
     pick-all (FirstFits s) (leb n (length rest)) (one t h (take n rest) (drop n rest)) cut
     (λ l. let fits = leb-true _ _ l in
-    (k, every-drop n rest b, omega (arith, length-take-le n rest fits, length-drop n rest))) (λ l. tt)
+    (k, every-drop _ n rest b, omega (arith, length-take-le n rest fits, length-drop n rest))) (λ l. tt)
 
 long-fits : (s : List ℕ) (t : ℕ) (rest : List ℕ) → t < 256 → Bytes rest → 2 + length rest ≤ length s → FirstFits s (long t rest)
 unfolding long

@@ -7,6 +7,7 @@ use Prim.Native.Nat.{ℕ}
 use lib.Dec.{T, eqb, eqb→eq}
 use Rattle.refusal.specs.Answer.{Answer, given, absent, refused}
 use Rattle.refusal.specs.Every.{Every}
+use Rattle.laws.proofs.Tests.{both}
 use Rattle.starred.specs.Sheet.{Line, Holds}
 
 abbrev sameNumbers : List ℕ → List ℕ → Bool
@@ -31,10 +32,6 @@ allSame [] = true
 allSame (l ∷ ls) = same (l .says) (l .stated) && allSame ls
 
 -- ---- what passes is equal
-
-both : (a b : Bool) → T (a && b) → T a × T b
-both true b t = (tt, t)
-both false b t = absurd t
 
 numbers-equal : (a b : List ℕ) → T (sameNumbers a b) → a ≡ b
 numbers-equal [] [] t = refl
