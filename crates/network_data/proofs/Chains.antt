@@ -157,7 +157,7 @@ module _ (p : ℕ) (s : List ℕ) where
   prefix-passed : (c : Counts) (start end : ℕ) → end ≤ length s → Passed (Whole s (record { start = start; end = end })) (checkPrefix p s c start end)
   unfolding checkPrefix
   prefix-passed c start end l =
-      pick-all (Passed _) (leb mostPrefixes (c .prefixes)) (refused 12 p 0) _ (λ _. tt) (λ _. head-passed _ start end (headAt s start end) l (head-fits s start end))
+      pick-all (Passed _) (leb mostPrefixes (c .prefixes)) (refused _ p 0) _ (λ _. tt) (λ _. head-passed _ start end (headAt s start end) l (head-fits s start end))
 
   values-passed : (c : Counts) (st : Stop) (es : List Piece) (at : ℕ) → es ≡ walkIn s at (length s) .items → Passed (Heads s es) (values p s c st es)
   unfolding values
