@@ -13,8 +13,8 @@ use Rattle.refusal.specs.Answer.{pick, Answer, given, absent, refused, thenDo, 
 use Rattle.network_data.specs.Walk.{Stop, clean, short, Piece, walkIn}
 use Rattle.network_data.specs.Rules.{counts, headAt, join, rule, ended, rules, checkIn, checkHead, checkPrefix, values, checkFrom, checkValue}
 use Rattle.network_data.specs.Decode.{rowPlaces, placesIn, Prefix, headItems, inner, prefixAt, prefixes, contents, decodeNetworkData, allRoutes, allBorders, countsOf}
-use Rattle.network_data.specs.declared.framing.Head.{Head}
-use Rattle.network_data.specs.declared.framing.Head.the-variants.{Inner, Short}
+use Rattle.network_data.specs.declared.Head.{Head}
+use Rattle.network_data.specs.declared.Head.the-variants.{Inner, Short}
 use Rattle.network_data.specs.declared.Counts.{Counts}
 use Rattle.laws.proofs.Tests.{pick-all, by-test}
 use Rattle.refusal.specs.Sizes.{mostBytes, mostPrefixes, mostHasRoutes, mostBorderRouters}

@@ -9,6 +9,7 @@ pub mod Dataset
 pub mod Changes
 pub mod Delay
 pub mod NetworkData
+pub mod NetworkTables
 pub mod DiagValues
 pub mod Diag
 pub mod Pairing
