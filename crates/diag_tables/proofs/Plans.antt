@@ -17,8 +17,8 @@ use Rattle.network_data.specs.Walk.{walk, walkIn}
 use Rattle.network_data.specs.Rules.{ended, values, checkFrom, checkValue}
 use Rattle.network_data.specs.Decode.{Prefix, prefixes, contents, allRoutes, allBorders, countsOf, decodeNetworkData}
 use Rattle.network_data.specs.Answers.{checkedAnswer}
-use Rattle.network_data.specs.Tables as nd
-use Rattle.network_data.specs.Tables.{roomFor}
+use Rattle.network_tables.specs.Tables as nd
+use Rattle.network_tables.specs.Tables.{roomFor}
 use Rattle.network_data.specs.declared.Counts.{Counts}
 use Rattle.network_data.specs.declared.Checked.{Checked}
 use Rattle.network_data.specs.declared.PrefixEntry.{PrefixEntry}
@@ -146,7 +146,7 @@ module _ (P : List PrefixEntry) (H : List HasRouteEntry) (B : List BorderRouterE
   roomy-by absent = room-none (length P) (length H) (length B)
   roomy-by (refused n q i) = room-none (length P) (length H) (length B)
 
-  -- the tables that `network_data::decode` leaves
+  -- the tables that `network_tables::decode` leaves
   abbrev Left : Answer Diag → nd.Outcome
   Left a = nd.outcome (given (countsOf (toWrite a))) (written a P H B .prefixes) (written a P H B .routes) (written a P H B .borders)
 

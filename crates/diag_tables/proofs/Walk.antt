@@ -1,6 +1,6 @@
 -- `fn decode(payload: &[u8], prefixes: &mut [PrefixEntry], has_route: &mut [HasRouteEntry], border_routers: &mut [BorderRouterEntry]) -> S { let answer = answer_for(payload, prefixes.len(),
--- has_route.len(), border_routers.len()); let value = network_data_of(payload, answer); network_data::decode(value, prefixes, has_route, border_routers); answer }` at any plain S: a walk of its MIR, by hand.
--- Where `answer_for` ensures Settled, `network_data_of` requires Inside and hands back the bytes `value`, and these and what `network_data::decode` ensures give Ends, it meets Ends. S is left open
+-- has_route.len(), border_routers.len()); let value = network_data_of(payload, answer); network_tables::decode(value, prefixes, has_route, border_routers); answer }` at any plain S: a walk of its MIR, by hand.
+-- Where `answer_for` ensures Settled, `network_data_of` requires Inside and hands back the bytes `value`, and these and what `network_tables::decode` ensures give Ends, it meets Ends. S is left open
 -- because the record of a payload is large: with it spelled out, the steps of the walk are too large to compute.
 -- Assumes `Given`, and that the table's entries at the three names meet those contracts.
 use mathlib.Core.Path.{_≡_, refl, ap, subst}
@@ -30,8 +30,6 @@ use denote.Builtin.{u8, usize}
 use denote.Ref.{RefT, now}
 use denote.Slice.{sliceTy, sliceVal, shr-slice-lawful, MutSlice, ShrSlice, Room, finally, slice-vals, mut-slice-tells, shr-slice-tells, shr-slice-copy}
 use denote.Steps.{only, owned, nothing, peeks, heard}
-use denote.Enum.Enum.{Few, Plainss, layout}
-use denote.Enum.Declared.{Declared, variants, shape, row}
 use denote.Enum.Laws as EL
 use denote.Signature.{Signature, plain, mutSlice, shrSlice}
 use denote.Triple.Statement.{Contract, Triple}
@@ -48,7 +46,7 @@ use Rattle.network_data.specs.declared.BorderRouterEntry.{BorderRouterEntry}
 use Rattle.network_data.specs.declared.Checked.{Checked}
 use Rattle.network_data.specs.Answers.{checkedAnswer}
 use Rattle.network_data.specs.Decode.{decodeNetworkData}
-use Rattle.network_data.specs.Tables as nd
+use Rattle.network_tables.specs.Tables as nd
 use Rattle.network_data.proofs.PrefixEntry as TP
 use Rattle.network_data.proofs.PrefixEntry.Laws as TP′
 use Rattle.network_data.proofs.HasRouteEntry as TH
@@ -57,7 +55,7 @@ use Rattle.network_data.proofs.BorderRouterEntry as TB
 use Rattle.network_data.proofs.BorderRouterEntry.Laws as TB′
 use Rattle.network_data.proofs.Checked as C
 use Rattle.network_data.proofs.Checked.Laws as C′
-use Rattle.network_data.proofs.decode as fill
+use Rattle.network_tables.proofs.decode as fill
 
 abbrev RP : RattleType
 RP = TP.the-row
@@ -68,22 +66,7 @@ RH = TH.the-row
 abbrev RB : RattleType
 RB = TB.the-row
 
--- a declared enum's
-abbrev pub enum-elem : (T : Declared) → EL.Laws T → Plainss (variants T) → Few (shape T) → Elem
-enum-elem T L P few = record {
-  D = T .D;
-  τ = layout (shape T);
-  wr = row T .written;
-  rch = row T .reaches;
-  own = row T .own;
-  coded = row T .coded;
-  val = EL.val T L;
-  tells = EL.tells T L;
-  plain = EL.pure T P;
-  typed = λ 𝓤 H A W. EL.lawful T L 𝓤 H A W few .typed;
-}
-
--- what `network_data::decode` says of a value and the tables
+-- what `network_tables::decode` says of a value and the tables
 abbrev pub Filled : List ℕ → (P P′ : List PrefixEntry) → (H H′ : List HasRouteEntry) → (B B′ : List BorderRouterEntry) → Checked → Type 0
 Filled v P P′ H H′ B B′ y = nd.outcome (checkedAnswer y) P′ H′ B′ ≡ nd.decoded (decodeNetworkData 0 v) P H B
 
@@ -120,7 +103,7 @@ module _ (E : Elem) (key-answer key-value key-fill : Name)
   abbrev pub Fills : {M : Type 1} (𝓤 : URA M) (H : Heap 𝓤) (A : Atoms 𝓤) (mem : Memory → SProp 𝓤) (run : Routine → Fun 𝓤) → Contract 𝓤
   Fills 𝓤 H A mem run = tripleOf 𝓤 H A fill.signature (fill.spec 𝓤 H A mem run)
 
-  -- ---- the function: its locals are the result, the four parameters, the answer, the value, the three counts, what `network_data::decode` answers, and each table's pointer and its slice
+  -- ---- the function: its locals are the result, the four parameters, the answer, the value, the three counts, what `network_tables::decode` answers, and each table's pointer and its slice
   abbrev pub signature : Signature
   signature = record { lifetimes = 4; outlives = []; params = shrSlice 0 tt (λ _. u8) ∷ mutSlice 1 tt (λ _. RP) ∷ mutSlice 2 tt (λ _. RH) ∷ mutSlice 3 tt (λ _. RB) ∷ []; result = plain (λ _. R) }
 

@@ -7,7 +7,7 @@ use mathlib.Core.List.{List, [], map}
 use lib.ListN.{length}
 use Rattle.refusal.specs.Answer.{Answer, given, absent, refused, thenDo, onGiven}
 use Rattle.network_data.specs.Decode.{Prefix, entryOf, allRoutes, allBorders, countsOf}
-use Rattle.network_data.specs.Tables.{roomFor, over}
+use Rattle.network_tables.specs.Tables.{roomFor, over}
 use Rattle.network_data.specs.declared.Counts.{Counts}
 use Rattle.network_data.specs.declared.PrefixEntry.{PrefixEntry}
 use Rattle.network_data.specs.declared.HasRouteEntry.{HasRouteEntry}

@@ -10,7 +10,7 @@ use refusal::Fault;
 use refusal::Refusal;
 ghost use mathlib.Core.Path.{_≡_};
 ghost use Rattle.refusal.specs.Answer.{pick, given, refused};
-ghost use Rattle.network_data.specs.Tables.{roomFor};
+ghost use Rattle.network_tables.specs.Tables.{roomFor};
 ghost use Rattle.diag.specs.Answers.{decodedAnswer};
 ghost use Rattle.diag_tables.specs.Tables.{answered, outcome, decoded};
 ghost use Rattle.diag_tables.specs.Planned.{Inside, valueIn, Planned};
@@ -92,6 +92,6 @@ pub fn decode(
         border_routers.len(),
     );
     let value = network_data_of(payload, answer);
-    network_data::decode(value, prefixes, has_route, border_routers);
+    network_tables::decode(value, prefixes, has_route, border_routers);
     answer
 }

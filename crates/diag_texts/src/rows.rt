@@ -12,10 +12,10 @@ use network_data::BorderRouterEntry;
 use network_data::HasRouteEntry;
 use network_data::OptContext;
 use network_data::PrefixEntry;
-use network_data::Presence;
-use network_data::ReadBorderRouter;
-use network_data::ReadHasRoute;
-use network_data::ReadPrefix;
+use network_tables::Presence;
+use network_tables::ReadBorderRouter;
+use network_tables::ReadHasRoute;
+use network_tables::ReadPrefix;
 use texts::Room;
 use texts::part_of;
 use texts::put_byte;
@@ -177,12 +177,12 @@ fn put_row(text: &mut Room, at: usize, rows: Rows, s: &[u8], k: usize) -> usize 
         Rows::Routes => put_read_route(text, at, diag_values::route64_row(s, k)),
         Rows::Children => put_read_child(text, at, diag_values::child_row(s, k)),
         Rows::Lists => put_read_list(text, at, s, diag::child_list(s, k)),
-        Rows::Prefixes => put_read_prefix(text, at, network_data::prefix_at(s, k)),
-        Rows::HasRoutes => put_read_has_route(text, at, network_data::has_route_at(s, k)),
+        Rows::Prefixes => put_read_prefix(text, at, network_tables::prefix_at(s, k)),
+        Rows::HasRoutes => put_read_has_route(text, at, network_tables::has_route_at(s, k)),
         Rows::BorderRouters => put_read_border_router(
             text,
             at,
-            network_data::border_router_at(s, k),
+            network_tables::border_router_at(s, k),
         ),
     }
 }

@@ -6,7 +6,7 @@ use Rattle.network_data.specs.declared.PrefixEntry.{PrefixEntry}
 use Rattle.network_data.specs.declared.HasRouteEntry.{HasRouteEntry}
 use Rattle.network_data.specs.declared.BorderRouterEntry.{BorderRouterEntry}
 use Rattle.network_data.specs.declared.Checked.{Checked}
-use Rattle.network_data.proofs.Papers.{outcome-tells}
+use Rattle.network_tables.proofs.Papers.{outcome-tells}
 use Rattle.refusal.proofs.Papers.{Tells}
 use Rattle.network_bridge.specs.Parts.{outcomeOf}
 use Rattle.network_bridge.specs.declared.Decoded.{Decoded}

@@ -6,7 +6,7 @@ use Prim.Native.Nat.{ℕ}
 use lib.ListN.{drop}
 use Rattle.refusal.specs.Answer.{Answer}
 use Rattle.network_data.specs.Decode.{Prefix}
-use Rattle.network_data.specs.Tables.{outcome}
+use Rattle.network_tables.specs.Tables.{outcome}
 use Rattle.network_data.specs.declared.Counts.{Counts}
 use Rattle.network_data.specs.declared.PrefixEntry.{PrefixEntry}
 use Rattle.network_data.specs.declared.HasRouteEntry.{HasRouteEntry}

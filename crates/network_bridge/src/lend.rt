@@ -1,4 +1,4 @@
-// The calls of `network_data::decode` on parts of local tables. Each hands back one thing.
+// The calls of `network_tables::decode` on parts of local tables. Each hands back one thing.
 use crate::PLACES;
 use network_data::BorderRouterEntry;
 use network_data::Checked;
@@ -27,7 +27,7 @@ pub(crate) fn lent_answer(
     let mut p = prefixes;
     let mut h = routes;
     let mut b = borders;
-    let r = network_data::decode(value, &mut p[..np], &mut h[..nh], &mut b[..nb]);
+    let r = network_tables::decode(value, &mut p[..np], &mut h[..nh], &mut b[..nb]);
     r
 }
 
@@ -46,7 +46,7 @@ pub(crate) fn lent_prefixes(
     let mut p = prefixes;
     let mut h = routes;
     let mut b = borders;
-    network_data::decode(value, &mut p[..np], &mut h[..nh], &mut b[..nb]);
+    network_tables::decode(value, &mut p[..np], &mut h[..nh], &mut b[..nb]);
     p
 }
 
@@ -65,7 +65,7 @@ pub(crate) fn lent_routes(
     let mut p = prefixes;
     let mut h = routes;
     let mut b = borders;
-    network_data::decode(value, &mut p[..np], &mut h[..nh], &mut b[..nb]);
+    network_tables::decode(value, &mut p[..np], &mut h[..nh], &mut b[..nb]);
     h
 }
 
@@ -84,6 +84,6 @@ pub(crate) fn lent_borders(
     let mut p = prefixes;
     let mut h = routes;
     let mut b = borders;
-    network_data::decode(value, &mut p[..np], &mut h[..nh], &mut b[..nb]);
+    network_tables::decode(value, &mut p[..np], &mut h[..nh], &mut b[..nb]);
     b
 }

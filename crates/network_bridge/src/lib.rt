@@ -1,4 +1,4 @@
-// The bridge to `network_data::decode` for callers that have tables by value: parts of them are lent to it, and they come back.
+// The bridge to `network_tables::decode` for callers that have tables by value: parts of them are lent to it, and they come back.
 mod lend;
 
 use lend::lent_answer;
@@ -38,7 +38,7 @@ fn lent_of(n: usize) -> usize
     n
 }
 
-// `network_data::decode` with the first records of each table lent: np, nh and nb of them, or all where more are asked for. It is called once for
+// `network_tables::decode` with the first records of each table lent: np, nh and nb of them, or all where more are asked for. It is called once for
 // the answer and once for each table, since a call hands back one of them.
 pub fn decode(value: &[u8], tables: Tables, np: usize, nh: usize, nb: usize) -> Decoded
     ensures { λ r. ⌜ outcomeOf r ≡ leftWhole (decodeNetworkData 0 (now (value .entry))) (tables .prefixes) (lentOf np) (tables .«has_route») (lentOf nh) (tables .«border_routers») (lentOf nb) ⌝ }

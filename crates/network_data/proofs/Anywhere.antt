@@ -12,8 +12,8 @@ use Rattle.laws.proofs.Tests.{by-test}
 use Rattle.network_data.specs.Walk.{Stop, clean, short, Piece, walkIn}
 use Rattle.network_data.specs.Rules.{counts, headAt, join, rule, ended, rules, checkIn, checkHead, checkPrefix, values, checkFrom, checkValue}
 use Rattle.network_data.specs.Decode.{Prefix, contents, decodeNetworkData}
-use Rattle.network_data.specs.declared.framing.Head.{Head}
-use Rattle.network_data.specs.declared.framing.Head.the-variants.{Inner, Short}
+use Rattle.network_data.specs.declared.Head.{Head}
+use Rattle.network_data.specs.declared.Head.the-variants.{Inner, Short}
 use Rattle.network_data.specs.declared.Counts.{Counts}
 
 -- the same, refused at p

@@ -13,8 +13,8 @@ use Rattle.refusal.specs.Answer.{pick, Answer, given, absent, refused, thenDo, 
 use Rattle.network_data.specs.Walk.{Stop, clean, short, Piece, walkIn}
 use Rattle.network_data.specs.Rules.{counts, headAt, join, rule, ended, rules, checkIn, checkHead, checkPrefix, values, checkFrom, checkValue}
 use Rattle.network_data.specs.Decode.{rowPlaces, placesIn, Prefix, headItems, inner, prefixAt, prefixes, contents, decodeNetworkData, allRoutes, allBorders, countsOf}
-use Rattle.network_data.specs.declared.framing.Head.{Head}
-use Rattle.network_data.specs.declared.framing.Head.the-variants.{Inner, Short}
+use Rattle.network_data.specs.declared.Head.{Head}
+use Rattle.network_data.specs.declared.Head.the-variants.{Inner, Short}
 use Rattle.network_data.specs.declared.Counts.{Counts}
 use Rattle.laws.proofs.Tests.{pick-all, by-test}
 use Rattle.refusal.specs.Sizes.{mostBytes, mostPrefixes, mostHasRoutes, mostBorderRouters}
@@ -39,7 +39,7 @@ Adds c n h b (refused x p i) = Unit {0}
 join-only : (p had len size most : ℕ) → Only (had + len / size) (join p had len size most)
 unfolding join
 join-only p had len size most =
-    pick-all (Only (had + len / size)) (eqb (len % size) 0) _ (refused 4 p 0)
+    pick-all (Only (had + len / size)) (eqb (len % size) 0) _ (refused _ p 0)
     (λ _. pick-all (Only (had + len / size)) (ltb most (had + len / size)) (refused 12 p 0) (given (had + len / size)) (λ _. tt) (λ _. refl)) (λ _. tt)
 
 module _ (c : Counts) where
@@ -105,7 +105,7 @@ module _ (p : ℕ) (s : List ℕ) where
   prefix-adds : (c : Counts) (start end : ℕ) → Adds c 1 (length (prefixAt s start end .routes)) (length (prefixAt s start end .borders)) (checkPrefix p s c start end)
   unfolding checkPrefix prefixAt inner
   prefix-adds c start end =
-      pick-all (Adds c 1 _ _) (leb mostPrefixes (c .prefixes)) (refused 12 p 0) _ (λ _. tt)
+      pick-all (Adds c 1 _ _) (leb mostPrefixes (c .prefixes)) (refused _ p 0) _ (λ _. tt)
       (λ _. simp length-map (head-adds c end (headAt s start end)))
 
   values-adds : (c : Counts) (st : Stop) (es : List Piece) → Adds c (length (prefixes s es)) (length (allRoutes (prefixes s es))) (length (allBorders (prefixes s es))) (values p s c st es)

@@ -2,12 +2,6 @@ pub mod Walks
 pub mod Shifts
 pub mod Passes
 pub mod Counted
-pub mod Seeks
-pub mod Chains
-pub mod Rowed
-pub mod Numbers
-pub mod Plans
-pub mod Agree
 pub mod Anywhere
 pub mod Papers
 pub mod Bench

@@ -1,29 +1,15 @@
 -- The code's answers, on paper.
 -- Assumes nothing.
 use Prim.Native.Nat.{ℕ}
-use lib.ListN.{replicate}
-use Rattle.refusal.specs.Answer.{Answer, given, absent, refused}
+use Rattle.refusal.specs.Answer.{Answer, given}
 use Rattle.refusal.specs.Number.{refusalAnswer}
 use Rattle.network_data.specs.declared.Counts.{Counts}
-use Rattle.network_data.specs.declared.HasRouteEntry.{HasRouteEntry}
-use Rattle.network_data.specs.declared.BorderRouterEntry.{BorderRouterEntry}
-use Rattle.network_data.specs.declared.SixLowPanContext.{SixLowPanContext}
-use Rattle.network_data.specs.declared.PrefixEntry.{PrefixEntry}
-use Rattle.network_data.specs.declared.OptContext.{OptContext}
-use Rattle.network_data.specs.declared.OptContext.the-variants as o
 use Rattle.network_data.specs.declared.checks.Sum.{Sum}
 use Rattle.network_data.specs.declared.checks.Sum.the-variants as s
 use Rattle.network_data.specs.declared.Checked.{Checked}
 use Rattle.network_data.specs.declared.Checked.the-variants as c
 use Rattle.network_data.specs.declared.TlvCount.{TlvCount}
 use Rattle.network_data.specs.declared.TlvCount.the-variants as t
-use Rattle.network_data.specs.declared.ReadHasRoute.{ReadHasRoute}
-use Rattle.network_data.specs.declared.ReadHasRoute.the-variants as h
-use Rattle.network_data.specs.declared.ReadBorderRouter.{ReadBorderRouter}
-use Rattle.network_data.specs.declared.ReadBorderRouter.the-variants as b
-use Rattle.network_data.specs.declared.Presence.{Presence}
-use Rattle.network_data.specs.declared.Presence.the-variants as p
-use Rattle.network_data.specs.declared.ReadPrefix.{ReadPrefix}
 
 abbrev pub sumAnswer : Sum → Answer ℕ
 sumAnswer (s.Rows n) = given n
@@ -36,47 +22,3 @@ checkedAnswer (c.Refused r) = refusalAnswer r
 abbrev pub tlvCountAnswer : TlvCount → Answer ℕ
 tlvCountAnswer (t.Tlvs n) = given n
 tlvCountAnswer (t.Refused r) = refusalAnswer r
-
-abbrev pub contextAnswer : OptContext → Answer SixLowPanContext
-contextAnswer (o.Some x) = given x
-contextAnswer o.None = absent
-
-abbrev pub hasRouteAnswer : ReadHasRoute → Answer HasRouteEntry
-hasRouteAnswer (h.Value x) = given x
-hasRouteAnswer h.Absent = absent
-hasRouteAnswer (h.Refused r) = refusalAnswer r
-
-abbrev pub borderRouterAnswer : ReadBorderRouter → Answer BorderRouterEntry
-borderRouterAnswer (b.Value x) = given x
-borderRouterAnswer b.Absent = absent
-borderRouterAnswer (b.Refused r) = refusalAnswer r
-
--- a record that is there, with nothing said of what it is
-abbrev pub presenceAnswer : Presence → Answer (Unit {0})
-presenceAnswer p.Valid = given tt
-presenceAnswer p.Absent = absent
-presenceAnswer (p.Refused r) = refusalAnswer r
-
--- a copy of a prefix's record, with its answer beside it
-pub record Copy : Type 0 where
-  pub answer : Answer (Unit {0})
-  pub entry : PrefixEntry
-
-abbrev pub prefixCopy : ReadPrefix → Copy
-prefixCopy r = record { answer = presenceAnswer (r .answer); entry = r .entry }
-
-abbrev pub noEntry : PrefixEntry
-noEntry = record {
-  «domain_id» = 0;
-  «prefix_bit_length» = 0;
-  prefix = replicate 32 0;
-  «six_low_pan_context» = o.None;
-  «has_routes» = 0;
-  «border_routers» = 0;
-}
-
--- the record that is given, or one of zeros and why there is none
-unfoldable pub copied : Answer PrefixEntry → Copy
-copied (given x) = record { answer = given tt; entry = x }
-copied absent = record { answer = absent; entry = noEntry }
-copied (refused n q i) = record { answer = refused n q i; entry = noEntry }

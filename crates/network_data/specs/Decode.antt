@@ -8,8 +8,8 @@ use Rattle.refusal.specs.Sizes.{mostBytes}
 use Rattle.refusal.specs.Answer.{pick, Answer, given, absent, refused, onGiven}
 use Rattle.network_data.specs.Walk.{Piece, walkIn}
 use Rattle.network_data.specs.Rules.{counts, bytesFor, headAt, checkValue}
-use Rattle.network_data.specs.declared.framing.Head.{Head}
-use Rattle.network_data.specs.declared.framing.Head.the-variants.{Inner, Short}
+use Rattle.network_data.specs.declared.Head.{Head}
+use Rattle.network_data.specs.declared.Head.the-variants.{Inner, Short}
 use Rattle.network_data.specs.declared.Counts.{Counts}
 use Rattle.network_data.specs.declared.HasRouteEntry.{HasRouteEntry}
 use Rattle.network_data.specs.declared.BorderRouterEntry.{BorderRouterEntry}

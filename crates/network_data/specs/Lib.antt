@@ -3,8 +3,4 @@ pub mod Walk
 pub mod Walker
 pub mod Rules
 pub mod Decode
-pub mod Numbered
 pub mod Answers
-pub mod Cursor
-pub mod Tables
-pub mod Planned

@@ -8,8 +8,8 @@ use lib.Dec.{ltb, leb, eqb}
 use Rattle.refusal.specs.Sizes.{mostPrefixes, mostHasRoutes, mostBorderRouters}
 use Rattle.refusal.specs.Answer.{pick, Answer, given, refused, thenDo}
 use Rattle.network_data.specs.Walk.{Piece, Stop, clean, short, Walk, walkIn}
-use Rattle.network_data.specs.declared.framing.Head.{Head}
-use Rattle.network_data.specs.declared.framing.Head.the-variants.{Inner, Short}
+use Rattle.network_data.specs.declared.Head.{Head}
+use Rattle.network_data.specs.declared.Head.the-variants.{Inner, Short}
 use Rattle.network_data.specs.declared.Counts.{Counts}
 
 abbrev pub counts : (prefixes hasRoutes borderRouters : ℕ) → Counts

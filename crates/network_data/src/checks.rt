@@ -1,14 +1,14 @@
 // The refusals of a Network Data value: the first that is met in wire order, and the counts of what is passed.
 use crate::Checked;
 use crate::Counts;
+use crate::Head;
 use crate::MAX_BORDER_ROUTERS;
 use crate::MAX_HAS_ROUTES;
 use crate::MAX_PREFIXES;
 use crate::SubTlv;
-use crate::framing::Head;
-use crate::framing::head_at;
 use crate::framing::sub_at;
-use crate::framing::sub_in;
+use crate::head_at;
+use crate::sub_in;
 use refusal::Fault;
 use refusal::Refusal;
 ghost use mathlib.Core.Path.{_≡_};
@@ -168,12 +168,8 @@ pub(crate) fn check_items(s: &[u8], place: usize) -> Checked
     };
     loop {
         match sub_at(s, at) {
-            SubTlv::End => {
-                return Checked::Counted(c);
-            }
-            SubTlv::Cut => {
-                return refuse(Fault::ItemCut, place);
-            }
+            SubTlv::End => return Checked::Counted(c),
+            SubTlv::Cut => return refuse(Fault::ItemCut, place),
             SubTlv::Item { ty, start, len } => {
                 at = start + len;
                 if ty == 1 {

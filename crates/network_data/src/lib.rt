@@ -1,38 +1,23 @@
-// Thread Network Data (the values of type 7 in decode.rs): its records, the check of a value, its records by number and into tables, its walker.
+// Thread Network Data (the values of type 7 in decode.rs): its records, its framing, the check of a value, its walker.
 mod checks;
 mod framing;
-mod lent;
-mod prefixes;
-mod rows;
 mod walker;
 
 use checks::check_items;
 use checks::refuse;
 use framing::rest_of;
 use framing::sub_at;
-use lent::answer;
-use lent::fill_borders;
-use lent::fill_prefixes;
-use lent::fill_routes;
-use lent::plan_for;
-use prefixes::prefix_number;
 use refusal::Fault;
 use refusal::Refusal;
-use rows::border_number;
-use rows::first_border;
-use rows::first_route;
-use rows::route_number;
 use walker::count_all;
 ghost use mathlib.Core.Path.{_≡_};
-ghost use mathlib.Core.List.{List, map};
-ghost use Rattle.refusal.specs.Answer.{thenDo, onGiven};
-ghost use lib.ListN.{length};
+ghost use lib.ListN.{length, getD};
+ghost use Rattle.refusal.specs.Answer.{onGiven};
 ghost use Rattle.network_data.specs.Frame.{subIn, restOf};
 ghost use Rattle.network_data.specs.Walker.{tlvCount};
-ghost use Rattle.network_data.specs.Decode.{Prefix, decodeNetworkData, allRoutes, allBorders, countsOf, entryOf};
-ghost use Rattle.network_data.specs.Answers.{checkedAnswer, hasRouteAnswer, borderRouterAnswer, tlvCountAnswer, prefixCopy, copied, noEntry};
-ghost use Rattle.network_data.specs.Numbered.{nth};
-ghost use Rattle.network_data.specs.Tables.{outcome, decoded};
+ghost use Rattle.network_data.specs.Rules.{headAt};
+ghost use Rattle.network_data.specs.Decode.{decodeNetworkData, countsOf};
+ghost use Rattle.network_data.specs.Answers.{checkedAnswer, tlvCountAnswer};
 
 // A value has at most so many prefixes, and over all of them so many rows of each kind.
 pub const MAX_PREFIXES: usize = 64;
@@ -46,6 +31,12 @@ pub enum SubTlv {
     Item { ty: u8, start: usize, len: usize },
     Cut,
     End,
+}
+
+// The place where a prefix's inner TLVs begin, after its own bytes.
+pub enum Head {
+    Inner(usize),
+    Short,
 }
 
 pub struct HasRouteEntry {
@@ -106,29 +97,52 @@ pub enum TlvCount {
     Refused(Refusal),
 }
 
-pub enum ReadHasRoute {
-    Value(HasRouteEntry),
-    Absent,
-    Refused(Refusal),
+fn byte_at(s: &[u8], at: usize) -> u8
+    ensures { λ r. ⌜ r ≡ getD (now (s .entry)) at 0 ⌝ }
+{
+    if at < s.len() {
+        return s[at];
+    }
+    0
 }
 
-pub enum ReadBorderRouter {
-    Value(BorderRouterEntry),
-    Absent,
-    Refused(Refusal),
+// What stands at a place of s, before the place end; what is past the end of s is read as zeros. The step of every walk over TLVs.
+pub fn sub_in(s: &[u8], at: usize, end: usize) -> SubTlv
+    ensures { λ r. ⌜ r ≡ subIn (now (s .entry)) at end ⌝ }
+{
+    if end <= at {
+        return SubTlv::End;
+    }
+    if end - at < 2 {
+        return SubTlv::Cut;
+    }
+    let len = byte_at(s, at + 1) as usize;
+    if len <= end - (at + 2) {
+        return SubTlv::Item {
+            ty: byte_at(s, at) / 2,
+            start: at + 2,
+            len: len,
+        };
+    }
+    SubTlv::Cut
 }
 
-// Whether a record is there.
-pub enum Presence {
-    Valid,
-    Absent,
-    Refused(Refusal),
-}
-
-// A copy of a prefix's record, or one of zeros and why there is none.
-pub struct ReadPrefix {
-    pub answer: Presence,
-    pub entry: PrefixEntry,
+// Of a prefix whose value stands from start to end.
+pub fn head_at(s: &[u8], start: usize, end: usize) -> Head
+    ensures { λ r. ⌜ r ≡ headAt (now (s .entry)) start end ⌝ }
+{
+    if end < start {
+        return Head::Short;
+    }
+    let n = end - start;
+    if n < 2 {
+        return Head::Short;
+    }
+    let need = 2 + (byte_at(s, start + 1) as usize + 7) / 8;
+    if n < need {
+        return Head::Short;
+    }
+    Head::Inner(start + need)
 }
 
 // How many records a value has. Refusals: 1, then 4, 5 and 12, the first met, at the place of its entry, which is 0 for a bare value.
@@ -139,89 +153,6 @@ pub fn check(value: &[u8], place: usize) -> Checked
         return refuse(Fault::TooLarge, 0);
     }
     check_items(value, place)
-}
-
-// The HasRoute row of a bare value by its number, over all prefixes, from 0 on. Refusals: as `check` at place 0.
-pub fn has_route_at(value: &[u8], i: usize) -> ReadHasRoute
-    ensures { λ r. ⌜ hasRouteAnswer r ≡ thenDo (decodeNetworkData 0 (now (value .entry))) (λ (ps : List Prefix). nth (allRoutes ps) i) ⌝ }
-{
-    match check(value, 0) {
-        Checked::Counted(c) => {
-            if i >= c.has_routes {
-                return ReadHasRoute::Absent;
-            }
-            ReadHasRoute::Value(route_number(value, i))
-        }
-        Checked::Refused(r) => ReadHasRoute::Refused(r),
-    }
-}
-
-// The BorderRouter row of a bare value by its number, over all prefixes, from 0 on. Refusals: as `check` at place 0.
-pub fn border_router_at(value: &[u8], i: usize) -> ReadBorderRouter
-    ensures { λ r. ⌜ borderRouterAnswer r ≡ thenDo (decodeNetworkData 0 (now (value .entry))) (λ (ps : List Prefix). nth (allBorders ps) i) ⌝ }
-{
-    match check(value, 0) {
-        Checked::Counted(c) => {
-            if i >= c.border_routers {
-                return ReadBorderRouter::Absent;
-            }
-            ReadBorderRouter::Value(border_number(value, i))
-        }
-        Checked::Refused(r) => ReadBorderRouter::Refused(r),
-    }
-}
-
-fn no_prefix(answer: Presence) -> ReadPrefix
-    ensures { λ r. ⌜ r ≡ record { answer = answer; entry = noEntry } ⌝ }
-{
-    ReadPrefix {
-        answer: answer,
-        entry: PrefixEntry {
-            domain_id: 0,
-            prefix_bit_length: 0,
-            prefix: [0; 32],
-            six_low_pan_context: OptContext::None,
-            has_routes: 0,
-            border_routers: 0,
-        },
-    }
-}
-
-// The prefix of a bare value by its number, from 0 on. Refusals: as `check` at place 0.
-pub fn prefix_at(value: &[u8], i: usize) -> ReadPrefix
-    ensures { λ r. ⌜ prefixCopy r ≡ copied (thenDo (decodeNetworkData 0 (now (value .entry))) (λ (ps : List Prefix). nth (map entryOf ps) i)) ⌝ }
-{
-    match check(value, 0) {
-        Checked::Counted(c) => {
-            if i >= c.prefixes {
-                return no_prefix(Presence::Absent);
-            }
-            ReadPrefix {
-                answer: Presence::Valid,
-                entry: prefix_number(value, i),
-            }
-        }
-        Checked::Refused(r) => no_prefix(Presence::Refused(r)),
-    }
-}
-
-// How many records a bare value has; they go into the tables, in prefix order, and records past the counts stay. Refusals: as `check` at place
-// 0, then 11; all records stay.
-pub fn decode(
-    value: &[u8],
-    prefixes: &mut [PrefixEntry],
-    has_route: &mut [HasRouteEntry],
-    border_routers: &mut [BorderRouterEntry],
-) -> Checked
-    ensures { λ r. ⌜ outcome (checkedAnswer r) (now (prefixes .exit)) (now («has_route» .exit)) (now («border_routers» .exit)) ≡ decoded (decodeNetworkData 0 (now (value .entry))) (now (prefixes .entry)) (now («has_route» .entry)) (now («border_routers» .entry)) ⌝ }
-{
-    let p = plan_for(value, prefixes.len(), has_route.len(), border_routers.len());
-    let r = first_route(value);
-    let b = first_border(value);
-    fill_prefixes(prefixes, 0, value, p.prefixes, 0);
-    fill_routes(has_route, 0, value, p.has_routes, r);
-    fill_borders(border_routers, 0, value, p.border_routers, b);
-    answer(p)
 }
 
 // The walker: it keeps the bytes still to be read.

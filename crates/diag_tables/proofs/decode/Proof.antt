@@ -6,9 +6,9 @@ use Prim.Native.Nat.{ℕ}
 use contract.Running.{givenOf, tables, tablesOf}
 use denote.Triple.Spec.{tripleOf}
 use denote.Triple.Table.{entered, cited}
-use Rattle.network_data.proofs.decode as fill
-use Rattle.network_data.proofs.decode.Symbol as fill-def
-use Rattle.network_data.proofs.decode.Met as fill-thm
+use Rattle.network_tables.proofs.decode as fill
+use Rattle.network_tables.proofs.decode.Symbol as fill-def
+use Rattle.network_tables.proofs.decode.Met as fill-thm
 use Rattle.network_data.specs.declared.PrefixEntry.{PrefixEntry}
 use Rattle.network_data.specs.declared.HasRouteEntry.{HasRouteEntry}
 use Rattle.network_data.specs.declared.BorderRouterEntry.{BorderRouterEntry}
@@ -19,7 +19,8 @@ use Rattle.diag.proofs.Decoded.Laws as O′
 use Rattle.diag_tables.specs.Tables.{answered, outcome, decoded}
 use Rattle.diag_tables.specs.Planned.{Inside, valueIn, Planned}
 use Rattle.diag_tables.proofs.Plans.{finish}
-use Rattle.diag_tables.proofs.Walk.{enum-elem, decode-meets}
+use Rattle.tables.proofs.Elem.{enum-elem}
+use Rattle.diag_tables.proofs.Walk.{decode-meets}
 use Rattle.diag_tables.proofs.answer_for as answer
 use Rattle.diag_tables.proofs.answer_for.Symbol as answer-def
 use Rattle.diag_tables.proofs.answer_for.Met as answer-thm
@@ -47,4 +48,4 @@ decode-spec 𝓤 H 𝓜 𝓖 𝓡 =
     𝓤 H (𝓖 .A) (givenOf 𝓤 H 𝓜 𝓖) (𝓜 .mem) (𝓡 .run) (tablesOf 𝓤 H 𝓜 (tables 𝓤 H 𝓜 𝓡 code.env))
     (cited 𝓤 H (tripleOf 𝓤 H (𝓖 .A) answer.signature (answer.spec 𝓤 H (𝓖 .A) (𝓜 .mem) (𝓡 .run))) 𝓜 𝓡 code.env answer-def.name answer-def.routine code.calls-diag-tables·answer-for (answer-thm.met 𝓤 H 𝓜 𝓖 𝓡))
     (cited 𝓤 H (tripleOf 𝓤 H (𝓖 .A) value.signature (value.spec 𝓤 H (𝓖 .A) (𝓜 .mem) (𝓡 .run))) 𝓜 𝓡 code.env value-def.name value-def.routine code.calls-diag-tables·network-data-of (value-thm.met 𝓤 H 𝓜 𝓖 𝓡))
-    (cited 𝓤 H (tripleOf 𝓤 H (𝓖 .A) fill.signature (fill.spec 𝓤 H (𝓖 .A) (𝓜 .mem) (𝓡 .run))) 𝓜 𝓡 code.env fill-def.name fill-def.routine code.calls-network-data·decode (fill-thm.met 𝓤 H 𝓜 𝓖 𝓡)))
+    (cited 𝓤 H (tripleOf 𝓤 H (𝓖 .A) fill.signature (fill.spec 𝓤 H (𝓖 .A) (𝓜 .mem) (𝓡 .run))) 𝓜 𝓡 code.env fill-def.name fill-def.routine code.calls-network-tables·decode (fill-thm.met 𝓤 H 𝓜 𝓖 𝓡)))

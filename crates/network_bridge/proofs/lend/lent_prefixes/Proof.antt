@@ -56,7 +56,7 @@ use Rattle.network_data.specs.declared.BorderRouterEntry.{BorderRouterEntry}
 use Rattle.network_data.specs.declared.Checked.{Checked}
 use Rattle.network_data.specs.Answers.{checkedAnswer}
 use Rattle.network_data.specs.Decode.{decodeNetworkData}
-use Rattle.network_data.specs.Tables.{Outcome, outcome, decoded}
+use Rattle.network_tables.specs.Tables.{Outcome, outcome, decoded}
 use Rattle.network_bridge.specs.Parts.{places, onParts}
 use Rattle.network_data.proofs.PrefixEntry as TP
 use Rattle.network_data.proofs.PrefixEntry.Laws as TP′
@@ -66,9 +66,9 @@ use Rattle.network_data.proofs.BorderRouterEntry as TB
 use Rattle.network_data.proofs.BorderRouterEntry.Laws as TB′
 use Rattle.network_data.proofs.Checked as O
 use Rattle.network_data.proofs.Checked.Laws as O′
-use Rattle.network_data.proofs.decode as dec
-use Rattle.network_data.proofs.decode.Symbol as dec-def
-use Rattle.network_data.proofs.decode.Met as dec-thm
+use Rattle.network_tables.proofs.decode as dec
+use Rattle.network_tables.proofs.decode.Symbol as dec-def
+use Rattle.network_tables.proofs.decode.Met as dec-thm
 use Rattle.network_bridge.proofs.lend.lent_prefixes.Key.{name as #key}
 use Rattle.network_bridge.proofs.lend.lent_prefixes as this
 use Rattle.network_bridge.proofs.lend.lent_prefixes.Statement as stated
@@ -313,4 +313,4 @@ lent-prefixes-spec 𝓤 H 𝓜 𝓖 𝓡 =
     entered 𝓤 H (tripleOf 𝓤 H (𝓖 .A) this.signature (this.spec 𝓤 H (𝓖 .A) (𝓜 .mem) (𝓡 .run)))
     (tables 𝓤 H 𝓜 𝓡 code.env .C) (tables 𝓤 H 𝓜 𝓡 code.env .Λ) #key code.function (code.unfolded 𝓤 H 𝓜 𝓡)
     (this-meets 𝓤 H (𝓖 .A) (givenOf 𝓤 H 𝓜 𝓖) (𝓜 .mem) (𝓡 .run) (tablesOf 𝓤 H 𝓜 (tables 𝓤 H 𝓜 𝓡 code.env))
-    (cited 𝓤 H (Decode 𝓤 H (𝓖 .A) (𝓜 .mem) (𝓡 .run)) 𝓜 𝓡 code.env dec-def.name dec-def.routine code.calls-network-data·decode (dec-thm.met 𝓤 H 𝓜 𝓖 𝓡)))
+    (cited 𝓤 H (Decode 𝓤 H (𝓖 .A) (𝓜 .mem) (𝓡 .run)) 𝓜 𝓡 code.env dec-def.name dec-def.routine code.calls-network-tables·decode (dec-thm.met 𝓤 H 𝓜 𝓖 𝓡)))

@@ -1,0 +1,7 @@
+pub mod Seeks
+pub mod Chains
+pub mod Rowed
+pub mod Numbers
+pub mod Plans
+pub mod Agree
+pub mod Papers

@@ -1,0 +1,5 @@
+pub mod Numbered
+pub mod Answers
+pub mod Cursor
+pub mod Tables
+pub mod Planned

@@ -1,0 +1,41 @@
+-- One possible answer for each public call of `network_tables`: each line is the call's own promise.
+-- Assumes nothing.
+use mathlib.Core.List.{List, map}
+use mathlib.Core.Path.{_≡_, sym, _∙_}
+use Prim.Native.Nat.{ℕ}
+use Rattle.network_data.specs.Answers.{checkedAnswer}
+use Rattle.network_data.specs.Decode.{Prefix, allBorders, allRoutes, decodeNetworkData, entryOf}
+use Rattle.network_data.specs.declared.BorderRouterEntry.{BorderRouterEntry}
+use Rattle.network_data.specs.declared.Checked.{Checked}
+use Rattle.network_data.specs.declared.HasRouteEntry.{HasRouteEntry}
+use Rattle.network_data.specs.declared.PrefixEntry.{PrefixEntry}
+use Rattle.network_tables.proofs.Papers.{border-router-tells, has-route-tells, outcome-tells, prefix-tells}
+use Rattle.network_tables.specs.Answers.{borderRouterAnswer, copied, hasRouteAnswer, prefixCopy}
+use Rattle.network_tables.specs.Numbered.{nth}
+use Rattle.network_tables.specs.Tables.{decoded, outcome}
+use Rattle.network_tables.specs.declared.ReadBorderRouter.{ReadBorderRouter}
+use Rattle.network_tables.specs.declared.ReadHasRoute.{ReadHasRoute}
+use Rattle.network_tables.specs.declared.ReadPrefix.{ReadPrefix}
+use Rattle.refusal.specs.Answer.{thenDo}
+use Rattle.one_answer.specs.One.{One}
+use Rattle.one_answer.proofs.General.{one}
+
+-- network_tables::has_route_at
+pub has-route-at : (value : List ℕ) (i : ℕ) → One (λ (r : ReadHasRoute). hasRouteAnswer r ≡ thenDo (decodeNetworkData 0 value) (λ (ps : List Prefix). nth (allRoutes ps) i))
+has-route-at value i = one hasRouteAnswer has-route-tells _
+
+-- network_tables::border_router_at
+pub border-router-at : (value : List ℕ) (i : ℕ) → One (λ (r : ReadBorderRouter). borderRouterAnswer r ≡ thenDo (decodeNetworkData 0 value) (λ (ps : List Prefix). nth (allBorders ps) i))
+border-router-at value i = one borderRouterAnswer border-router-tells _
+
+-- network_tables::prefix_at
+pub prefix-at : (value : List ℕ) (i : ℕ) → One (λ (r : ReadPrefix). prefixCopy r ≡ copied (thenDo (decodeNetworkData 0 value) (λ (ps : List Prefix). nth (map entryOf ps) i)))
+prefix-at value i = one prefixCopy prefix-tells _
+
+-- network_tables::decode: the answer and the three tables
+pub decode : (value : List ℕ) (prefixes : List PrefixEntry) (routes : List HasRouteEntry) (borders : List BorderRouterEntry)
+    → (r q : Checked) (P P′ : List PrefixEntry) (H H′ : List HasRouteEntry) (B B′ : List BorderRouterEntry)
+    → outcome (checkedAnswer r) P H B ≡ decoded (decodeNetworkData 0 value) prefixes routes borders
+    → outcome (checkedAnswer q) P′ H′ B′ ≡ decoded (decodeNetworkData 0 value) prefixes routes borders
+    → (r ≡ q) × (P ≡ P′) × (H ≡ H′) × (B ≡ B′)
+decode value prefixes routes borders r q P P′ H H′ B B′ e f = outcome-tells r q P P′ H H′ B B′ (e ∙ sym f)
