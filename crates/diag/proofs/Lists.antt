@@ -26,7 +26,8 @@ use Rattle.tlv.specs.declared.Found.the-variants as d
 use Rattle.tlv.specs.declared.Frame.{Frame}
 use Rattle.tlv.specs.declared.Frame.the-variants as f
 use Rattle.diag_values.specs.Values.{addressListOf}
-use Rattle.diag_values.specs.Rows.{part, nth, addresses}
+use Rattle.refusal.specs.Numbered.{nth}
+use Rattle.diag_values.specs.Rows.{part, addresses}
 use Rattle.diag_values.specs.Rule.{valueOf}
 use Rattle.diag_values.specs.declared.ChildIpv6AddrInfo.{ChildIpv6AddrInfo}
 use Rattle.diag_values.proofs.Kept.{value-cases}

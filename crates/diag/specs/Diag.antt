@@ -10,7 +10,8 @@ use Rattle.network_data.specs.Decode.{Prefix, contents, countsOf}
 use Rattle.network_data.specs.declared.Counts.{Counts}
 use Rattle.diag_values.specs.Values.{byteAt, modeValue, ConnectivityValue, connectivityOf, leaderOf, countersOf, addressListOf}
 use Rattle.diag_values.specs.Routes.{Route, routeOf}
-use Rattle.diag_values.specs.Rows.{childRows, addresses, nth}
+use Rattle.refusal.specs.Numbered.{nth}
+use Rattle.diag_values.specs.Rows.{childRows, addresses}
 use Rattle.diag_values.specs.declared.ModeData.{ModeData}
 use Rattle.diag_values.specs.declared.LeaderData.{LeaderData}
 use Rattle.diag_values.specs.declared.MacCounters.{MacCounters}

@@ -30,7 +30,7 @@ ghost use Rattle.tlv.specs.Entries.{framing};
 ghost use Rattle.tlv.specs.Last.{spot};
 ghost use Rattle.tlv.specs.Answers.{countedAnswer, foundAnswer};
 ghost use Rattle.diag_values.specs.Values.{modeValue, connectivityOf, leaderOf, countersOf};
-ghost use Rattle.diag_values.specs.Rows.{nth};
+ghost use Rattle.refusal.specs.Numbered.{nth};
 ghost use Rattle.diag_values.specs.Answers.{judgedAnswer, judged, optAnswer8, optAnswer16};
 ghost use Rattle.diag.specs.Parts.{allOf, entriesFrom};
 ghost use Rattle.diag.specs.Checked.{entryValue, checked};

@@ -9,7 +9,8 @@ use lib.Dec.{ltb}
 use borrow.Author.Tests.{ltb-true, ltb-false}
 use Rattle.laws.proofs.Tests.{by-test}
 use Rattle.refusal.specs.Answer.{Answer, given, absent, onGiven, thenDo}
-use Rattle.diag_values.specs.Rows.{listed, nth, childAt, childRows, addresses, Part, part, addressParts, orEmpty}
+use Rattle.refusal.specs.Numbered.{nth}
+use Rattle.diag_values.specs.Rows.{listed, childAt, childRows, addresses, Part, part, addressParts, orEmpty}
 use Rattle.diag_values.specs.Rule.{valueOf}
 use Rattle.diag_values.specs.declared.ChildTableEntry.{ChildTableEntry}
 use Rattle.diag_values.proofs.Kept.{value-cases}

@@ -1,4 +1,4 @@
--- Values that are rows, one after the other: the lists of their rows, which have the counts for lengths, and one row by its number.
+-- Values that are rows, one after the other: the lists of their rows, which have the counts for lengths.
 -- Assumes nothing.
 use Prim.Native.Nat.{ℕ, zero, suc, _+_, _-_, _*_, _/_, _%_, _^_}
 use mathlib.Core.List.{List, [], _∷_}
@@ -12,12 +12,6 @@ use Rattle.diag_values.specs.declared.ChildTableEntry.{ChildTableEntry}
 unfoldable pub listed : {A : Type 0} → (ℕ → A) → ℕ → List A
 listed f zero = []
 listed f (suc n) = f 0 ∷ listed (λ k. f (suc k)) n
-
--- row k of a list, from 0 on
-unfoldable pub nth : {A : Type 0} → List A → ℕ → Answer A
-nth [] k = absent
-nth (x ∷ xs) zero = given x
-nth (x ∷ xs) (suc k) = nth xs k
 
 -- "16: rows of 3: exponent 5 bits, quality 2, child ID 9, mode byte"; the first two bytes are the 16 bits
 abbrev pub childAt : List ℕ → (at : ℕ) → ChildTableEntry

@@ -10,7 +10,8 @@ ghost use Rattle.refusal.specs.Answer.{onGiven, thenDo};
 ghost use Rattle.diag_values.specs.Values.{byteAt, numberAt, modeOf, modeValue, leaderOf, countersOf, priorityOf, bufferOf, datagramsOf, connectivityOf, addressListOf};
 ghost use Rattle.diag_values.specs.Routes.{assigned, routersOf, routesFit, routeRow, routeRows, routeOf, table, zeroRoutes, routes, laidOut};
 ghost use Rattle.diag_values.specs.Rule.{keepsRule, valueOf};
-ghost use Rattle.diag_values.specs.Rows.{nth, childAt, childRows, addresses, addressParts, timeoutSeconds, orEmpty};
+ghost use Rattle.refusal.specs.Numbered.{nth};
+ghost use Rattle.diag_values.specs.Rows.{childAt, childRows, addresses, addressParts, timeoutSeconds, orEmpty};
 ghost use Rattle.diag_values.specs.Answers.{judgedAnswer, judged, optAnswer8, optAnswer16, answer8, modeAnswer, connectivityPaper, connectivityAnswer, leaderAnswer, countersAnswer, addressListAnswer, childAnswer, routeAnswer, partAnswer, routeRead};
 
 // The types of the values, as decode.rs names them.

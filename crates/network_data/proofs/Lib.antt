@@ -4,4 +4,3 @@ pub mod Passes
 pub mod Counted
 pub mod Anywhere
 pub mod Papers
-pub mod Bench

@@ -9,7 +9,7 @@ use lib.Dec.{leb}
 use Rattle.refusal.specs.Answer.{Answer, given, absent, refused, thenDo}
 use Rattle.laws.proofs.Tests.{pick-all}
 use Rattle.network_data.specs.Decode.{Prefix, decodeNetworkData, allRoutes, allBorders, countsOf, entryOf}
-use Rattle.network_tables.specs.Numbered.{nth}
+use Rattle.refusal.specs.Numbered.{nth}
 use Rattle.network_tables.specs.Tables.{roomFor, Outcome, written, decoded}
 use Rattle.network_data.specs.declared.Counts.{Counts}
 use Rattle.network_data.specs.declared.PrefixEntry.{PrefixEntry}

@@ -15,7 +15,7 @@ use Rattle.laws.proofs.Tests.{by-test}
 use Rattle.network_data.specs.Rules.{checkValue}
 use Rattle.network_data.specs.Walk.{walkIn}
 use Rattle.network_data.specs.Decode.{Prefix, contents, decodeNetworkData, allRoutes, allBorders, countsOf, entryOf}
-use Rattle.network_tables.specs.Numbered.{nth}
+use Rattle.refusal.specs.Numbered.{nth}
 use Rattle.network_tables.specs.Cursor.{firstRow, nextRow, RowsTo, routeOf, borderOf, SpansTo, entryAt, spanEnd}
 use Rattle.network_data.specs.declared.Counts.{Counts}
 use Rattle.network_data.proofs.Counted.{counted, too-large, counted-given, counted-refused}

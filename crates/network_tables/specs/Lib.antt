@@ -1,4 +1,3 @@
-pub mod Numbered
 pub mod Answers
 pub mod Cursor
 pub mod Tables

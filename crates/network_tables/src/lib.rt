@@ -26,7 +26,7 @@ ghost use Rattle.refusal.specs.Answer.{thenDo};
 ghost use Rattle.network_data.specs.Decode.{Prefix, decodeNetworkData, allRoutes, allBorders, entryOf};
 ghost use Rattle.network_data.specs.Answers.{checkedAnswer};
 ghost use Rattle.network_tables.specs.Answers.{hasRouteAnswer, borderRouterAnswer, prefixCopy, copied, noEntry};
-ghost use Rattle.network_tables.specs.Numbered.{nth};
+ghost use Rattle.refusal.specs.Numbered.{nth};
 ghost use Rattle.network_tables.specs.Tables.{outcome, decoded};
 
 pub enum ReadHasRoute {

@@ -6,7 +6,8 @@ use Prim.Native.Nat.{_%_, ℕ}
 use Rattle.diag_values.proofs.Papers.{address-list-tells, child-tells, connectivity-tells, counters-tells, judged-tells, leader-tells, mode-tells, part-tells, read8-tells, route-row-tells, route64-tells}
 use Rattle.diag_values.specs.Answers.{addressListAnswer, answer8, childAnswer, connectivityAnswer, countersAnswer, judged, judgedAnswer, leaderAnswer, modeAnswer, partAnswer, routeAnswer, routeRead}
 use Rattle.diag_values.specs.Routes.{laidOut, routeOf, routeRows}
-use Rattle.diag_values.specs.Rows.{addressParts, addresses, childRows, nth, orEmpty, timeoutSeconds}
+use Rattle.refusal.specs.Numbered.{nth}
+use Rattle.diag_values.specs.Rows.{addressParts, addresses, childRows, orEmpty, timeoutSeconds}
 use Rattle.diag_values.specs.Rule.{valueOf}
 use Rattle.diag_values.specs.Values.{addressListOf, byteAt, connectivityOf, countersOf, leaderOf, modeValue}
 use Rattle.diag_values.specs.declared.ChildTableEntry.{ChildTableEntry}

@@ -14,7 +14,7 @@ use Rattle.laws.proofs.Tests.{pick-all}
 use Rattle.tlv.specs.Entries.{Entry, Stop, clean, cutAt, framing}
 use Rattle.tlv.specs.Limits.{limited, framed}
 use Rattle.tlv.proofs.Tally.{only}
-use Rattle.diag_values.specs.Rows.{nth}
+use Rattle.refusal.specs.Numbered.{nth}
 use Rattle.diag.specs.Parts.{allOf}
 use Rattle.diag.specs.Checked.{checked}
 use Rattle.diag.specs.Diag.{AddressList, addressList, addressLists}

@@ -17,7 +17,8 @@ use Rattle.tlv.specs.Entries.{Entry, Framing, framing}
 use Rattle.tlv.proofs.Walks.{from, from-start}
 use Rattle.diag_values.specs.Values.{addressListOf}
 use Rattle.diag_values.specs.Rule.{valueOf}
-use Rattle.diag_values.specs.Rows.{nth, childAt, childRows}
+use Rattle.refusal.specs.Numbered.{nth}
+use Rattle.diag_values.specs.Rows.{childAt, childRows}
 use Rattle.diag_values.specs.declared.ChildTableEntry.{ChildTableEntry}
 use Rattle.diag_values.specs.declared.ChildIpv6AddrInfo.{ChildIpv6AddrInfo}
 use Rattle.diag_values.proofs.Kept.{value-cases}

@@ -18,7 +18,8 @@ use Rattle.tlv.proofs.Tally.{Only, only, counted-short}
 use Rattle.tlv.specs.Last.{lastOf, lastEntry, valueOr, lastValue}
 use Rattle.diag_values.specs.Rule.{keepsRule, valueOf}
 use Rattle.diag_values.specs.Values.{addressListOf}
-use Rattle.diag_values.specs.Rows.{nth, childAt, childRows}
+use Rattle.refusal.specs.Numbered.{nth}
+use Rattle.diag_values.specs.Rows.{childAt, childRows}
 use Rattle.diag_values.specs.declared.ChildTableEntry.{ChildTableEntry}
 use Rattle.diag.specs.Parts.{last, allOf}
 use Rattle.diag.specs.Checked.{decoding, checked}

@@ -10,7 +10,7 @@ use lib.ListN.{length}
 use borrow.Author.Tests.{eq-eqb, ne-eqb, eqb-true}
 use Rattle.refusal.specs.Answer.{given}
 use Rattle.laws.proofs.Tests.{by-test}
-use Rattle.diag_values.specs.Rows.{nth}
+use Rattle.refusal.specs.Numbered.{nth}
 use Rattle.pairing.specs.Pairing.{occurs, placeOf, pairing}
 use Rattle.pairing.specs.Loops.{lastPlace, judged}
 use Rattle.pairing.specs.declared.Pairing.{Pairing}

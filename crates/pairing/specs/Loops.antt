@@ -9,7 +9,8 @@ use Rattle.refusal.specs.Answer.{pick, Answer, given, absent, refused, thenDo, 
 use Rattle.tlv.specs.Entries.{Entry}
 use Rattle.diag_values.specs.Rule.{valueOf}
 use Rattle.diag_values.specs.Values.{addressListOf}
-use Rattle.diag_values.specs.Rows.{listed, nth, childRows}
+use Rattle.refusal.specs.Numbered.{nth}
+use Rattle.diag_values.specs.Rows.{listed, childRows}
 use Rattle.diag_values.specs.declared.ChildTableEntry.{ChildTableEntry}
 use Rattle.diag_values.specs.declared.ChildIpv6AddrInfo.{ChildIpv6AddrInfo}
 use Rattle.diag.specs.Parts.{allOf}

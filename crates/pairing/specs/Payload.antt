@@ -5,7 +5,8 @@ use mathlib.Core.List.{List, map}
 use Rattle.refusal.specs.Answer.{Answer, thenDo, onGiven}
 use Rattle.tlv.specs.Entries.{Entry}
 use Rattle.tlv.specs.Last.{valueOr}
-use Rattle.diag_values.specs.Rows.{childRows, nth}
+use Rattle.refusal.specs.Numbered.{nth}
+use Rattle.diag_values.specs.Rows.{childRows}
 use Rattle.diag_values.specs.declared.ChildTableEntry.{ChildTableEntry}
 use Rattle.diag.specs.Parts.{last}
 use Rattle.diag.specs.Checked.{checked}

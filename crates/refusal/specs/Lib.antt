@@ -3,3 +3,4 @@ pub mod Answer
 pub mod Number
 pub mod Output
 pub mod Every
+pub mod Numbered

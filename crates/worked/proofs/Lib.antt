@@ -1,3 +1,4 @@
 pub mod Delay
 pub mod Diag
+pub mod NetworkData
 pub mod Pairing

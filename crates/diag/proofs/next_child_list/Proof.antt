@@ -9,7 +9,7 @@ use borrow.Author.Needs.{needs}
 use Rattle.refusal.specs.Answer.{onGiven}
 use Rattle.tlv.specs.Last.{spot}
 use Rattle.tlv.proofs.Walks.{from, turn-entries, turn-none, turn-inside}
-use Rattle.diag_values.specs.Rows.{nth}
+use Rattle.refusal.specs.Numbered.{nth}
 use Rattle.diag.specs.Parts.{allOf, entriesFrom}
 use Rattle.diag.proofs.Lists.{from-there, next-here, next-past, next-none}
 use Rattle.diag.proofs.next_child_list.Statement.{statement}

@@ -11,7 +11,7 @@ use Rattle.tlv.specs.Entries.{Framing, framing}
 use Rattle.tlv.specs.Last.{spot}
 use Rattle.tlv.specs.Answers.{foundAnswer}
 use Rattle.tlv.proofs.Walks.{from, from-start}
-use Rattle.diag_values.specs.Rows.{nth}
+use Rattle.refusal.specs.Numbered.{nth}
 use Rattle.diag_values.proofs.Listing.{nth-empty}
 use Rattle.diag.specs.Parts.{allOf}
 use Rattle.diag.proofs.Lists.{follows, none-left, nth-here, nth-past}

@@ -5,7 +5,7 @@ use mathlib.Core.List.{List}
 use Prim.Native.Nat.{ℕ}
 use native.Mathlib.Omega.{arith}
 use Rattle.diag_values.specs.Routes.{routeRows}
-use Rattle.diag_values.specs.Rows.{nth}
+use Rattle.refusal.specs.Numbered.{nth}
 use Rattle.diag_values.specs.Answers.{judgedAnswer}
 use Rattle.diag_values.proofs.Kept.{row-kept, row-refused, routes-fit}
 use Rattle.diag_values.proofs.Routing.{fit-length}

@@ -6,7 +6,7 @@ use native.Mathlib.Omega.{arith}
 use lib.ListN.{length}
 use Rattle.refusal.specs.Answer.{given}
 use Rattle.diag_values.specs.Routes.{routeRows}
-use Rattle.diag_values.specs.Rows.{nth}
+use Rattle.refusal.specs.Numbered.{nth}
 use Rattle.diag_values.proofs.Routing.{rowsFrom, row-start, row-out, row-end, row-hit, row-miss}
 use Rattle.diag_values.proofs.Listing.{nth-empty, nth-head, nth-tail, nth-same}
 use borrow.Author.Needs.{needs}
