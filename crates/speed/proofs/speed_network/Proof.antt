@@ -1,0 +1,47 @@
+use mathlib.Core.Path.{_∙_, ap, sym}
+use Rattle.refusal.specs.Answer.{onGiven}
+use Rattle.network_data.specs.Answers.{checkedAnswer}
+use Rattle.speed.specs.Code.{code}
+use Rattle.speed.specs.Sums.{countsSum}
+use borrow.Author.Needs.{needs}
+use Rattle.speed.proofs.speed_network.Statement.{statement}
+use Rattle.speed.proofs.speed_network.Tie as tie
+use Rattle.speed.proofs.speed_network.Reads as reads
+use Rattle.speed.proofs.speed_network.Lts as lts
+use Rattle.network_data.proofs.check.Reads as check-reads
+use Rattle.speed.proofs.coded.Reads as coded-reads
+use Rattle.speed.proofs.sums.counts_sum.Reads as counts-sum-reads
+
+check-requires : tie.Need-check-requires
+check-requires c κs = search needs
+
+enum-known-c : tie.Need-enum-known-c
+enum-known-c c = search needs
+
+counts-sum-requires : tie.Need-counts-sum-requires
+counts-sum-requires c κs = search needs
+
+enum-known-r : tie.Need-enum-known-r
+enum-known-r c = search needs
+
+coded-requires : tie.Need-coded-requires
+coded-requires c κs = search needs
+
+returns : tie.Need-returns
+unfolding code
+returns c = c .counts-sum .ensures ∙ ap (λ a. code (onGiven countsSum a)) (sym (ap (checkedAnswer) (c .before .before .c .given .1)) ∙ c .before .before .before .before .check .ensures)
+
+returns-2 : tie.Need-returns-2
+returns-2 c = c .coded .ensures ∙ ap (λ a. code (onGiven countsSum a)) (sym (ap (checkedAnswer) (c .before .before .r .given .1)) ∙ c .before .before .before .before .check .ensures)
+
+pub speed-network-spec : {M : Type 1} → statement M
+speed-network-spec =
+    tie.close
+    (tie.spec
+    check-requires
+    enum-known-c
+    counts-sum-requires
+    enum-known-r
+    coded-requires
+    returns
+    returns-2)

@@ -1,0 +1,26 @@
+use Rattle.speed.proofs.Sizes.{adds}
+use mathlib.Core.Path.{refl}
+use borrow.Author.Needs.{needs}
+use Rattle.speed.proofs.sums.counts_sum.Statement.{statement}
+use Rattle.speed.proofs.sums.counts_sum.Tie as tie
+use Rattle.speed.proofs.sums.counts_sum.Reads as reads
+use Rattle.speed.proofs.sums.counts_sum.Lts as lts
+use Rattle.speed.proofs.sums.plus.Reads as plus-reads
+
+plus-requires : tie.Need-plus-requires
+plus-requires c κs = search needs
+
+plus-requires-2 : tie.Need-plus-requires-2
+plus-requires-2 c κs = search needs
+
+plus-requires-3 : tie.Need-plus-requires-3
+plus-requires-3 c κs = search needs
+
+returns : tie.Need-returns
+returns c =
+    let n1 = adds (c .before .before .plus .ensures) refl refl in
+    let n2 = adds (c .before .plus2 .ensures) n1 refl in
+    adds (c .plus3 .ensures) n2 refl
+
+pub counts-sum-spec : {M : Type 1} → statement M
+counts-sum-spec = tie.close (tie.spec plus-requires plus-requires-2 plus-requires-3 returns)

@@ -1,0 +1,14 @@
+use borrow.Author.Needs.{needs}
+use Rattle.speed.specs.Sums.{plus}
+use Rattle.speed.proofs.sums.plus.Statement.{statement}
+use Rattle.speed.proofs.sums.plus.Tie as tie
+
+wrapping-add-u64-requires : tie.Need-wrapping-add-u64-requires
+wrapping-add-u64-requires c κs = search needs
+
+returns : tie.Need-returns
+unfolding plus
+returns c = search needs
+
+pub plus-spec : {M : Type 1} → statement M
+plus-spec = tie.close (tie.spec wrapping-add-u64-requires returns)
