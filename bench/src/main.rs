@@ -11,7 +11,7 @@ use inputs::Input;
 type Work = fn(&Input, &mut [u8]) -> u64;
 
 /// Each with the library's way and the Rust's.
-const WORK: [(&str, Work, Work); 23] = [
+const WORK: [(&str, Work, Work); 22] = [
     ("framing", ours::framing, rust::framing),
     ("rewrite", ours::rewrite, rust::rewrite),
     ("last_value", ours::last_value, rust::last_value),
@@ -21,20 +21,19 @@ const WORK: [(&str, Work, Work); 23] = [
     ("utf8_mixed", ours::utf8_mixed, rust::utf8_mixed),
     ("run", ours::run, rust::run),
     ("fold", ours::fold, rust::fold),
-    ("u8", |i, _| ours::record(&i.diag.byte), |i, _| rust::record(&i.diag.byte)),
-    ("u16", |i, _| ours::record(&i.diag.short), |i, _| rust::record(&i.diag.short)),
-    ("u32", |i, _| ours::record(&i.diag.long), |i, _| rust::record(&i.diag.long)),
+    ("u8", |i, _| ours::payload(&i.diag.byte), |i, _| rust::payload(&i.diag.byte)),
+    ("u16", |i, _| ours::payload(&i.diag.short), |i, _| rust::payload(&i.diag.short)),
+    ("u32", |i, _| ours::payload(&i.diag.long), |i, _| rust::payload(&i.diag.long)),
     ("mode", |i, _| ours::mode(&i.diag.mode), |i, _| rust::mode(&i.diag.mode)),
-    ("connectivity", |i, _| ours::record(&i.diag.connectivity), |i, _| rust::record(&i.diag.connectivity)),
-    ("leader_data", |i, _| ours::record(&i.diag.leader_data), |i, _| rust::record(&i.diag.leader_data)),
-    ("mac_counters", |i, _| ours::record(&i.diag.mac_counters), |i, _| rust::record(&i.diag.mac_counters)),
-    ("route64", |i, _| ours::rows(&i.diag.route64), |i, _| rust::rows(&i.diag.route64)),
+    ("connectivity", |i, _| ours::payload(&i.diag.connectivity), |i, _| rust::payload(&i.diag.connectivity)),
+    ("leader_data", |i, _| ours::payload(&i.diag.leader_data), |i, _| rust::payload(&i.diag.leader_data)),
+    ("mac_counters", |i, _| ours::payload(&i.diag.mac_counters), |i, _| rust::payload(&i.diag.mac_counters)),
+    ("route64", |i, _| ours::payload(&i.diag.route64), |i, _| rust::payload(&i.diag.route64)),
     ("network_data", |i, _| ours::network_data(&i.diag.network_data), |i, _| rust::network_data(&i.diag.network_data)),
-    ("addresses", |i, _| ours::rows(&i.diag.addresses), |i, _| rust::rows(&i.diag.addresses)),
-    ("child_table", |i, _| ours::rows(&i.diag.child_table), |i, _| rust::rows(&i.diag.child_table)),
-    ("child_lists", |i, _| ours::rows(&i.diag.child_addresses), |i, _| rust::rows(&i.diag.child_addresses)),
-    ("payload", |i, _| ours::record(&i.diag.payload), |i, _| rust::record(&i.diag.payload)),
-    ("payload_rows", |i, _| ours::rows(&i.diag.payload), |i, _| rust::rows(&i.diag.payload)),
+    ("addresses", |i, _| ours::payload(&i.diag.addresses), |i, _| rust::payload(&i.diag.addresses)),
+    ("child_table", |i, _| ours::payload(&i.diag.child_table), |i, _| rust::payload(&i.diag.child_table)),
+    ("child_lists", |i, _| ours::payload(&i.diag.child_addresses), |i, _| rust::payload(&i.diag.child_addresses)),
+    ("payload", |i, _| ours::payload(&i.diag.payload), |i, _| rust::payload(&i.diag.payload)),
 ];
 
 fn main() {

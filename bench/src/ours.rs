@@ -12,8 +12,7 @@ unsafe extern "C" {
     fn speed_fold(l: *const u8, n: usize, out: *mut u8, room: usize) -> u64;
     fn speed_mode(s: *const u8, n: usize) -> u64;
     fn speed_network(s: *const u8, n: usize) -> u64;
-    fn speed_record(s: *const u8, n: usize) -> u64;
-    fn speed_rows(s: *const u8, n: usize) -> u64;
+    fn speed_payload(s: *const u8, n: usize) -> u64;
 }
 
 pub fn framing(input: &Input, _: &mut [u8]) -> u64 {
@@ -61,10 +60,6 @@ pub fn network_data(bytes: &[u8]) -> u64 {
     unsafe { speed_network(bytes.as_ptr(), bytes.len()) }
 }
 
-pub fn record(bytes: &[u8]) -> u64 {
-    unsafe { speed_record(bytes.as_ptr(), bytes.len()) }
-}
-
-pub fn rows(bytes: &[u8]) -> u64 {
-    unsafe { speed_rows(bytes.as_ptr(), bytes.len()) }
+pub fn payload(bytes: &[u8]) -> u64 {
+    unsafe { speed_payload(bytes.as_ptr(), bytes.len()) }
 }

@@ -83,11 +83,7 @@ pub fn network_data(value: &[u8]) -> u64 {
     NetworkData::decode(value).map_or(NONE, |data| sums::network_data(&data))
 }
 
-/// A payload, for the values too whose decoder the Rust keeps to itself.
-pub fn record(payload: &[u8]) -> u64 {
-    NetDiagData::decode(payload).map_or(NONE, |data| sums::record(&data))
-}
-
-pub fn rows(payload: &[u8]) -> u64 {
-    NetDiagData::decode(payload).map_or(NONE, |data| sums::record(&data) + sums::rows(&data))
+/// A payload; and a value, as its one entry, whose decoder the Rust keeps to itself.
+pub fn payload(bytes: &[u8]) -> u64 {
+    NetDiagData::decode(bytes).map_or(NONE, |data| sums::values(&data) + sums::rows(&data))
 }

@@ -46,13 +46,10 @@ pub fn network_data(n: &NetworkData) -> u64 {
     (n.prefixes.len() + (0..n.prefixes.len()).map(rows).sum::<usize>()) as u64
 }
 
-/// A record, of which the parts count their bytes.
-pub fn record(d: &NetDiagData) -> u64 {
+/// The values of a record, those that are any bytes by their length.
+pub fn values(d: &NetDiagData) -> u64 {
     let bytes = [
         d.ext_mac_addr.as_ref().map_or(0, Vec::len),
-        d.route64.as_ref().map_or(0, |route| 9 + route.route_data.len()),
-        d.addresses.as_ref().map_or(0, |list| 16 * list.len()),
-        d.child_table.as_ref().map_or(0, |rows| 3 * rows.len()),
         d.channel_pages.as_ref().map_or(0, Vec::len),
         d.type_list.as_ref().map_or(0, Vec::len),
         d.eui64.map_or(0, |id| id.len()),

@@ -13,7 +13,7 @@ use Rattle.diag_values.specs.Rows.{Part, childRows, addresses}
 use Rattle.diag_values.specs.Rule.{valueOf}
 use Rattle.diag_values.specs.Answers.{judged}
 use Rattle.diag_values.specs.declared.ChildIpv6AddrInfo.{ChildIpv6AddrInfo}
-use Rattle.diag_values.proofs.Kept.{Keeps, kept, list-size}
+use Rattle.diag_values.proofs.Kept.{kept, list-size}
 use Rattle.diag.specs.Parts.{Said, lastPart}
 use Rattle.diag.specs.Diag.{Diag, diag, decode}
 use Rattle.diag.specs.Answers.{optPart, bytesAt, saidAt, diagOf}

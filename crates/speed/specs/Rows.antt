@@ -6,7 +6,7 @@ use lib.ListN.{length, getD, take, drop}
 use Rattle.refusal.specs.Answer.{Answer, given, absent, refused, thenDo, onGiven}
 use Rattle.tlv.specs.Entries.{Entry, framing}
 use Rattle.diag_values.specs.Values.{addressListOf}
-use Rattle.diag_values.specs.Routes.{Route, routeRow, routeOf, laidOut}
+use Rattle.diag_values.specs.Routes.{routeRow, routeOf, laidOut}
 use Rattle.diag_values.specs.Rows.{Part, nth, childRows, addresses, orEmpty}
 use Rattle.diag_values.specs.Rule.{valueOf}
 use Rattle.diag_values.specs.declared.RouteDataEntry.{RouteDataEntry}
@@ -16,7 +16,7 @@ use Rattle.diag_values.specs.declared.ChildIpv6AddrInfo.{ChildIpv6AddrInfo}
 use Rattle.diag.specs.Parts.{Said, allOf}
 use Rattle.diag.specs.Diag.{Diag}
 use Rattle.diag.specs.Answers.{bytesAt}
-use Rattle.speed.specs.Sums.{plus, onto, orZero, modeSum, recordSum}
+use Rattle.speed.specs.Sums.{plus, onto, orZero, modeSum, valuesSum, partsSum}
 
 -- f 0, f 1, .. f (n - 1) added up
 unfoldable pub summed : (ℕ → ℕ) → (n : ℕ) → ℕ
@@ -76,8 +76,9 @@ abbrev pub ofPart : {A : Type 0} → (List ℕ → ℕ) → List ℕ → Answer 
 ofPart {A} f s a = orZero (λ (x : Said A). f (bytesAt s (x .start) (x .len))) a
 
 -- a record of s and all its rows, but those of Network Data
-unfoldable pub rowsSum : List ℕ → Diag → ℕ
-rowsSum s d = onto 0 (recordSum d ∷ ofPart routes s (d .route64) ∷ ofPart children s (d .childTable) ∷ ofPart addressesSum s (d .addresses) ∷ lists s ∷ [])
+unfoldable pub payloadSum : List ℕ → Diag → ℕ
+payloadSum s d =
+    onto 0 (valuesSum d ∷ partsSum d ∷ ofPart routes s (d .route64) ∷ ofPart children s (d .childTable) ∷ ofPart addressesSum s (d .addresses) ∷ lists s ∷ [])
 
 -- the part, if there is one, lies within s
 abbrev pub Inside : List ℕ → Answer Part → Type 0

@@ -1,30 +1,21 @@
 -- What a diagnostic record says as one number, for a caller in another language: the sum of all its fields, modulo 2^64.
 -- Assumes nothing.
-use Prim.Native.Nat.{ℕ, zero, suc, _+_, _/_, _%_, _^_}
+use Prim.Native.Nat.{ℕ, _+_, _%_, _^_}
 use mathlib.Core.Bool.{Bool, true, false}
 use mathlib.Core.List.{List, [], _∷_}
-use lib.ListN.{length, getD, drop}
 use lib.IntN.{ℤ}
 use lib.Dec.{eqb}
 use mir.Syntax.{w8}
 use mir.Val.{ofZ}
 use Rattle.refusal.specs.Answer.{pick, Answer, given, absent, refused}
-use Rattle.tlv.specs.Entries.{Entry, framing}
 use Rattle.network_data.specs.declared.Counts.{Counts}
-use Rattle.diag_values.specs.Values.{ConnectivityValue, addressListOf}
-use Rattle.diag_values.specs.Routes.{routeRow, routeOf, laidOut}
-use Rattle.diag_values.specs.Rows.{Part, nth, childRows, addresses, orEmpty}
-use Rattle.diag_values.specs.Rule.{valueOf}
+use Rattle.diag_values.specs.Values.{ConnectivityValue}
+use Rattle.diag_values.specs.Rows.{Part}
 use Rattle.diag_values.specs.declared.ModeData.{ModeData}
 use Rattle.diag_values.specs.declared.LeaderData.{LeaderData}
 use Rattle.diag_values.specs.declared.MacCounters.{MacCounters}
-use Rattle.diag_values.specs.declared.RouteDataEntry.{RouteDataEntry}
-use Rattle.diag_values.specs.declared.Route64.{Route64}
-use Rattle.diag_values.specs.declared.ChildTableEntry.{ChildTableEntry}
-use Rattle.diag_values.specs.declared.ChildIpv6AddrInfo.{ChildIpv6AddrInfo}
-use Rattle.diag.specs.Parts.{Said, allOf}
+use Rattle.diag.specs.Parts.{Said}
 use Rattle.diag.specs.Diag.{NetworkDataValue, Diag}
-use Rattle.diag.specs.Answers.{bytesAt}
 
 unfoldable pub plus : ℕ → ℕ → ℕ
 plus a b = (a + b) % 2 ^ 64
@@ -91,33 +82,20 @@ partLen p = p .len
 abbrev pub size : {A : Type 0} → Answer (Said A) → ℕ
 size {A} a = orZero (λ (x : Said A). x .len) a
 
--- a record: the values that are read in it, and those that stay in the payload
+-- a record: the values that are read in it, and those that stay in the payload as they are
 unfoldable pub valuesSum : Diag → ℕ
 valuesSum d =
     onto 0
     (number (d .macAddr)
-    ∷ orZero modeSum (d .mode)
     ∷ number (d .timeout)
-    ∷ orZero connectivitySum (d .connectivity)
-    ∷ orZero leaderSum (d .leaderData)
-    ∷ orZero networkSum (d .networkData)
-    ∷ orZero countersSum (d .macCounters)
     ∷ number (d .batteryLevel)
     ∷ number (d .supplyVoltage)
+    ∷ orZero modeSum (d .mode)
+    ∷ orZero leaderSum (d .leaderData)
+    ∷ orZero networkSum (d .networkData)
+    ∷ orZero connectivitySum (d .connectivity)
+    ∷ orZero countersSum (d .macCounters)
     ∷ [])
 
 unfoldable pub partsSum : Diag → ℕ
-partsSum d =
-    onto 0
-    (size (d .extMacAddr)
-    ∷ size (d .route64)
-    ∷ size (d .addresses)
-    ∷ size (d .childTable)
-    ∷ size (d .channelPages)
-    ∷ size (d .typeList)
-    ∷ size (d .eui64)
-    ∷ d .childLists
-    ∷ [])
-
-abbrev pub recordSum : Diag → ℕ
-recordSum d = plus (valuesSum d) (partsSum d)
+partsSum d = onto 0 (d .childLists ∷ size (d .extMacAddr) ∷ size (d .channelPages) ∷ size (d .typeList) ∷ size (d .eui64) ∷ [])

@@ -8,10 +8,9 @@ use diag_values::ModeData;
 use diag_values::ReadMode;
 use network_data::Checked;
 use refusal::Written;
-use rows::rows_sum;
+use rows::payload_sum;
 use sums::counts_sum;
 use sums::mode_sum;
-use sums::record_sum;
 use tlv::Counted;
 ghost use mathlib.Core.Path.{_≡_};
 ghost use lib.ListN.{length};
@@ -30,8 +29,8 @@ ghost use Rattle.diag_values.specs.Values.{modeValue};
 ghost use Rattle.diag_values.specs.Rule.{valueOf};
 ghost use Rattle.diag.specs.Diag.{decode};
 ghost use Rattle.speed.specs.Code.{code};
-ghost use Rattle.speed.specs.Sums.{modeSum, countsSum, recordSum};
-ghost use Rattle.speed.specs.Rows.{rowsSum};
+ghost use Rattle.speed.specs.Sums.{modeSum, countsSum};
+ghost use Rattle.speed.specs.Rows.{payloadSum};
 
 const NONE: u64 = 9223372036854775808;
 
@@ -128,21 +127,11 @@ pub extern "C" fn speed_network(value: &[u8]) -> u64
 }
 
 #[no_mangle]
-pub extern "C" fn speed_record(payload: &[u8]) -> u64
-    ensures { λ r. ⌜ r ≡ code (onGiven recordSum (decode (now (payload .entry)))) ⌝ }
+pub extern "C" fn speed_payload(payload: &[u8]) -> u64
+    ensures { λ r. ⌜ r ≡ code (onGiven (payloadSum (now (payload .entry))) (decode (now (payload .entry)))) ⌝ }
 {
     match NetDiagData::decode(payload) {
-        Decoded::Data(d) => record_sum(payload, d),
-        Decoded::Refused(r) => coded(Written::Refused(r)),
-    }
-}
-
-#[no_mangle]
-pub extern "C" fn speed_rows(payload: &[u8]) -> u64
-    ensures { λ r. ⌜ r ≡ code (onGiven (rowsSum (now (payload .entry))) (decode (now (payload .entry)))) ⌝ }
-{
-    match NetDiagData::decode(payload) {
-        Decoded::Data(d) => rows_sum(payload, d),
+        Decoded::Data(d) => payload_sum(payload, d),
         Decoded::Refused(r) => coded(Written::Refused(r)),
     }
 }

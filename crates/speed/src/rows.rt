@@ -1,7 +1,8 @@
 // The rows of a diagnostic record as one number, each read by the library's call for it.
 use crate::sums::mode_sum;
+use crate::sums::parts_sum;
 use crate::sums::plus;
-use crate::sums::record_sum;
+use crate::sums::values_sum;
 use diag::NetDiagData;
 use diag::OptPart;
 use diag_values::ChildTableEntry;
@@ -16,7 +17,7 @@ ghost use Rattle.diag.specs.Diag.{decode};
 ghost use Rattle.diag.specs.Answers.{optPart, diagOf};
 ghost use Rattle.refusal.specs.Answer.{given};
 ghost use Rattle.speed.specs.Sums.{orZero};
-ghost use Rattle.speed.specs.Rows.{routeSum, maskSum, routesSum, route64Sum, routes, childSum, childAt, children, addressAt, addressesSum, listOf, lists, inPart, rowsSum, Inside};
+ghost use Rattle.speed.specs.Rows.{routeSum, maskSum, routesSum, route64Sum, routes, childSum, childAt, children, addressAt, addressesSum, listOf, lists, inPart, payloadSum, Inside};
 
 fn route_sum(r: RouteDataEntry) -> u64
     ensures { λ s. ⌜ s ≡ routeSum r ⌝ }
@@ -204,16 +205,17 @@ fn lists_sum(payload: &[u8]) -> u64
 }
 
 // The record of a payload, and all rows of it.
-pub(crate) fn rows_sum(payload: &[u8], d: NetDiagData) -> u64
+pub(crate) fn payload_sum(payload: &[u8], d: NetDiagData) -> u64
     requires { ⌜ given (diagOf (now payload) d) ≡ decode (now payload) ⌝ }
-    ensures { λ r. ⌜ r ≡ rowsSum (now (payload .entry)) (diagOf (now (payload .entry)) d) ⌝ }
+    ensures { λ r. ⌜ r ≡ payloadSum (now (payload .entry)) (diagOf (now (payload .entry)) d) ⌝ }
 {
+    let mut n = plus(0, values_sum(payload, d));
+    n = plus(n, parts_sum(payload, d));
     let route64 = d.route64;
-    let child_table = d.child_table;
-    let addresses = d.addresses;
-    let mut n = plus(0, record_sum(payload, d));
     n = plus(n, routes_in(payload, route64));
+    let child_table = d.child_table;
     n = plus(n, children_in(payload, child_table));
+    let addresses = d.addresses;
     n = plus(n, addresses_in(payload, addresses));
     plus(n, lists_sum(payload))
 }

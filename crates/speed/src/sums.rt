@@ -17,7 +17,7 @@ use network_data::Counts;
 ghost use mathlib.Core.Path.{_≡_};
 ghost use Rattle.diag_values.specs.Answers.{optAnswer8, optAnswer16, connectivityPaper};
 ghost use Rattle.diag.specs.Answers.{optAnswer32, optMode, optConnectivity, optLeaderData, optMacCounters, optPart, optNetworkData, diagOf};
-ghost use Rattle.speed.specs.Sums.{plus, orZero, number, flag, rank, modeSum, connectivitySum, leaderSum, countersSum, countsSum, networkSum, partLen, valuesSum, partsSum, recordSum};
+ghost use Rattle.speed.specs.Sums.{plus, orZero, number, flag, rank, modeSum, connectivitySum, leaderSum, countersSum, countsSum, networkSum, partLen, valuesSum, partsSum};
 
 pub(crate) fn plus(a: u64, b: u64) -> u64
     ensures { λ r. ⌜ r ≡ plus a b ⌝ }
@@ -185,52 +185,40 @@ fn of_part(x: OptPart) -> u64
 }
 
 // The record of a payload: the values that are read in it.
-fn values_sum(payload: &[u8], d: NetDiagData) -> u64
+pub(crate) fn values_sum(payload: &[u8], d: NetDiagData) -> u64
     ensures { λ r. ⌜ r ≡ valuesSum (diagOf (now (payload .entry)) d) ⌝ }
 {
     let mac_addr = d.mac_addr;
-    let mode = d.mode;
-    let timeout = d.timeout;
-    let connectivity = d.connectivity;
-    let leader_data = d.leader_data;
-    let network_data = d.network_data;
-    let mac_counters = d.mac_counters;
-    let battery_level = d.battery_level;
-    let supply_voltage = d.supply_voltage;
     let mut n = plus(0, of_u16(mac_addr));
-    n = plus(n, of_mode(mode));
+    let timeout = d.timeout;
     n = plus(n, of_u32(timeout));
-    n = plus(n, of_connectivity(connectivity));
-    n = plus(n, of_leader_data(leader_data));
-    n = plus(n, of_network_data(payload, network_data));
-    n = plus(n, of_mac_counters(mac_counters));
+    let battery_level = d.battery_level;
     n = plus(n, of_u8(battery_level));
-    plus(n, of_u16(supply_voltage))
+    let supply_voltage = d.supply_voltage;
+    n = plus(n, of_u16(supply_voltage));
+    let mode = d.mode;
+    n = plus(n, of_mode(mode));
+    let leader_data = d.leader_data;
+    n = plus(n, of_leader_data(leader_data));
+    let network_data = d.network_data;
+    n = plus(n, of_network_data(payload, network_data));
+    let connectivity = d.connectivity;
+    n = plus(n, of_connectivity(connectivity));
+    let mac_counters = d.mac_counters;
+    plus(n, of_mac_counters(mac_counters))
 }
 
-// And those that stay in the payload.
-fn parts_sum(payload: &[u8], d: NetDiagData) -> u64
+// And those that stay in the payload as they are.
+pub(crate) fn parts_sum(payload: &[u8], d: NetDiagData) -> u64
     ensures { λ r. ⌜ r ≡ partsSum (diagOf (now (payload .entry)) d) ⌝ }
 {
+    let mut n = plus(0, d.child_ipv6_addresses as u64);
     let ext_mac_addr = d.ext_mac_addr;
-    let route64 = d.route64;
-    let addresses = d.addresses;
-    let child_table = d.child_table;
+    n = plus(n, of_part(ext_mac_addr));
     let channel_pages = d.channel_pages;
-    let type_list = d.type_list;
-    let eui64 = d.eui64;
-    let mut n = plus(0, of_part(ext_mac_addr));
-    n = plus(n, of_part(route64));
-    n = plus(n, of_part(addresses));
-    n = plus(n, of_part(child_table));
     n = plus(n, of_part(channel_pages));
+    let type_list = d.type_list;
     n = plus(n, of_part(type_list));
-    n = plus(n, of_part(eui64));
-    plus(n, d.child_ipv6_addresses as u64)
-}
-
-pub(crate) fn record_sum(payload: &[u8], d: NetDiagData) -> u64
-    ensures { λ r. ⌜ r ≡ recordSum (diagOf (now (payload .entry)) d) ⌝ }
-{
-    plus(values_sum(payload, d), parts_sum(payload, d))
+    let eui64 = d.eui64;
+    plus(n, of_part(eui64))
 }

@@ -6,11 +6,6 @@ use Rattle.speed.specs.Sums.{modeSum}
 use borrow.Author.Needs.{needs}
 use Rattle.speed.proofs.speed_mode.Statement.{statement}
 use Rattle.speed.proofs.speed_mode.Tie as tie
-use Rattle.speed.proofs.speed_mode.Reads as reads
-use Rattle.speed.proofs.speed_mode.Lts as lts
-use Rattle.diag_values.proofs.ModeData.decode.Reads as decode-reads
-use Rattle.speed.proofs.coded.Reads as coded-reads
-use Rattle.speed.proofs.sums.mode_sum.Reads as mode-sum-reads
 
 decode-requires : tie.Need-decode-requires
 decode-requires c κs = search needs

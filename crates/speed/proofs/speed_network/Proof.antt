@@ -6,11 +6,6 @@ use Rattle.speed.specs.Sums.{countsSum}
 use borrow.Author.Needs.{needs}
 use Rattle.speed.proofs.speed_network.Statement.{statement}
 use Rattle.speed.proofs.speed_network.Tie as tie
-use Rattle.speed.proofs.speed_network.Reads as reads
-use Rattle.speed.proofs.speed_network.Lts as lts
-use Rattle.network_data.proofs.check.Reads as check-reads
-use Rattle.speed.proofs.coded.Reads as coded-reads
-use Rattle.speed.proofs.sums.counts_sum.Reads as counts-sum-reads
 
 check-requires : tie.Need-check-requires
 check-requires c κs = search needs

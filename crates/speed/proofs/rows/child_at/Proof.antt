@@ -1,4 +1,4 @@
-use mathlib.Core.Path.{_≡_, refl, sym, ap, _∙_}
+use mathlib.Core.Path.{sym, ap, _∙_}
 use Rattle.diag_values.specs.Answers.{childAnswer}
 use Rattle.speed.specs.Sums.{orZero}
 use Rattle.speed.specs.Rows.{childSum}

@@ -1,6 +1,5 @@
 use native.Mathlib.Nat.{add-sub-cancel-left}
-use mathlib.Core.Path.{_≡_, refl, sym, ap, _∙_}
-use Prim.Native.Nat.{_+_, _≤_}
+use mathlib.Core.Path.{refl, sym, ap, _∙_}
 use native.Mathlib.Omega.{arith}
 use Rattle.diag_values.specs.Answers.{addressListAnswer}
 use Rattle.speed.specs.Sums.{orZero}

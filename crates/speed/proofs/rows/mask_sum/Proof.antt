@@ -1,8 +1,8 @@
-use mathlib.Core.Path.{_≡_, refl, sym, ap, _∙_}
-use Prim.Native.Nat.{_-_, _/_, _≤_}
+use mathlib.Core.Path.{_≡_, refl}
+use Prim.Native.Nat.{_-_, _≤_}
 use native.Mathlib.Omega.{arith}
-use lib.ListN.{length, getD}
-use Rattle.speed.specs.Rows.{summed, maskSum}
+use lib.ListN.{getD}
+use Rattle.speed.specs.Rows.{summed}
 use Rattle.speed.proofs.Rowed.{summed-more, summed-done}
 use borrow.Author.Needs.{needs}
 use Rattle.speed.proofs.rows.mask_sum.Statement.{statement}

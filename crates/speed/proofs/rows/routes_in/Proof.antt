@@ -1,7 +1,7 @@
 use Rattle.speed.specs.Rows.{route64Sum}
 use Rattle.diag_values.specs.Routes.{RouteRead}
 use Rattle.speed.proofs.Rowed.{held}
-use mathlib.Core.Path.{_≡_, refl, sym, ap, _∙_}
+use mathlib.Core.Path.{ap, _∙_}
 use native.Mathlib.Omega.{arith}
 use native.Mathlib.Nat.{add-sub-cancel-left}
 use borrow.Author.Needs.{needs}

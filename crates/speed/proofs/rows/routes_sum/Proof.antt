@@ -1,7 +1,7 @@
-use mathlib.Core.Path.{_≡_, refl, sym, ap, _∙_}
-use Prim.Native.Nat.{_-_, _/_, _≤_}
+use mathlib.Core.Path.{_≡_, refl}
+use Prim.Native.Nat.{_-_, _≤_}
 use native.Mathlib.Omega.{arith}
-use lib.ListN.{length, getD}
+use lib.ListN.{getD}
 use Rattle.speed.specs.Rows.{summed, routeSum}
 use Rattle.speed.proofs.Rowed.{summed-more, summed-done}
 use Rattle.diag_values.specs.Routes.{routeRow}

@@ -3,12 +3,6 @@ use mathlib.Core.Path.{refl}
 use borrow.Author.Needs.{needs}
 use Rattle.speed.proofs.sums.connectivity_sum.Statement.{statement}
 use Rattle.speed.proofs.sums.connectivity_sum.Tie as tie
-use Rattle.speed.proofs.sums.connectivity_sum.Reads as reads
-use Rattle.speed.proofs.sums.connectivity_sum.Lts as lts
-use Rattle.speed.proofs.sums.of_u16.Reads as of-u16-reads
-use Rattle.speed.proofs.sums.of_u8.Reads as of-u8-reads
-use Rattle.speed.proofs.sums.plus.Reads as plus-reads
-use Rattle.speed.proofs.sums.rank.Reads as rank-reads
 
 rank-requires : tie.Need-rank-requires
 rank-requires c κs = search needs

@@ -3,9 +3,6 @@ use mathlib.Core.Path.{refl}
 use borrow.Author.Needs.{needs}
 use Rattle.speed.proofs.sums.counters_sum.Statement.{statement}
 use Rattle.speed.proofs.sums.counters_sum.Tie as tie
-use Rattle.speed.proofs.sums.counters_sum.Reads as reads
-use Rattle.speed.proofs.sums.counters_sum.Lts as lts
-use Rattle.speed.proofs.sums.plus.Reads as plus-reads
 
 cast-plus : tie.Need-cast-plus
 cast-plus c = search needs

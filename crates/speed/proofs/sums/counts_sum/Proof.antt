@@ -3,9 +3,6 @@ use mathlib.Core.Path.{refl}
 use borrow.Author.Needs.{needs}
 use Rattle.speed.proofs.sums.counts_sum.Statement.{statement}
 use Rattle.speed.proofs.sums.counts_sum.Tie as tie
-use Rattle.speed.proofs.sums.counts_sum.Reads as reads
-use Rattle.speed.proofs.sums.counts_sum.Lts as lts
-use Rattle.speed.proofs.sums.plus.Reads as plus-reads
 
 plus-requires : tie.Need-plus-requires
 plus-requires c κs = search needs

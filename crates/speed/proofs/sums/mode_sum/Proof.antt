@@ -3,10 +3,6 @@ use mathlib.Core.Path.{refl}
 use borrow.Author.Needs.{needs}
 use Rattle.speed.proofs.sums.mode_sum.Statement.{statement}
 use Rattle.speed.proofs.sums.mode_sum.Tie as tie
-use Rattle.speed.proofs.sums.mode_sum.Reads as reads
-use Rattle.speed.proofs.sums.mode_sum.Lts as lts
-use Rattle.speed.proofs.sums.flag.Reads as flag-reads
-use Rattle.speed.proofs.sums.plus.Reads as plus-reads
 
 flag-requires : tie.Need-flag-requires
 flag-requires c κs = search needs

@@ -1,9 +1,6 @@
 use borrow.Author.Needs.{needs}
 use Rattle.speed.proofs.sums.of_connectivity.Statement.{statement}
 use Rattle.speed.proofs.sums.of_connectivity.Tie as tie
-use Rattle.speed.proofs.sums.of_connectivity.Reads as reads
-use Rattle.speed.proofs.sums.of_connectivity.Lts as lts
-use Rattle.speed.proofs.sums.connectivity_sum.Reads as connectivity-sum-reads
 
 enum-known-x : tie.Need-enum-known-x
 enum-known-x c = search needs

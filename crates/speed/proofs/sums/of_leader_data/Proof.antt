@@ -1,9 +1,6 @@
 use borrow.Author.Needs.{needs}
 use Rattle.speed.proofs.sums.of_leader_data.Statement.{statement}
 use Rattle.speed.proofs.sums.of_leader_data.Tie as tie
-use Rattle.speed.proofs.sums.of_leader_data.Reads as reads
-use Rattle.speed.proofs.sums.of_leader_data.Lts as lts
-use Rattle.speed.proofs.sums.leader_sum.Reads as leader-sum-reads
 
 enum-known-x : tie.Need-enum-known-x
 enum-known-x c = search needs

@@ -1,9 +1,6 @@
 use borrow.Author.Needs.{needs}
 use Rattle.speed.proofs.sums.of_mac_counters.Statement.{statement}
 use Rattle.speed.proofs.sums.of_mac_counters.Tie as tie
-use Rattle.speed.proofs.sums.of_mac_counters.Reads as reads
-use Rattle.speed.proofs.sums.of_mac_counters.Lts as lts
-use Rattle.speed.proofs.sums.counters_sum.Reads as counters-sum-reads
 
 enum-known-x : tie.Need-enum-known-x
 enum-known-x c = search needs

@@ -1,9 +1,6 @@
 use borrow.Author.Needs.{needs}
 use Rattle.speed.proofs.sums.of_mode.Statement.{statement}
 use Rattle.speed.proofs.sums.of_mode.Tie as tie
-use Rattle.speed.proofs.sums.of_mode.Reads as reads
-use Rattle.speed.proofs.sums.of_mode.Lts as lts
-use Rattle.speed.proofs.sums.mode_sum.Reads as mode-sum-reads
 
 enum-known-x : tie.Need-enum-known-x
 enum-known-x c = search needs

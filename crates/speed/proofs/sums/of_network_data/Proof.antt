@@ -1,9 +1,6 @@
 use borrow.Author.Needs.{needs}
 use Rattle.speed.proofs.sums.of_network_data.Statement.{statement}
 use Rattle.speed.proofs.sums.of_network_data.Tie as tie
-use Rattle.speed.proofs.sums.of_network_data.Reads as reads
-use Rattle.speed.proofs.sums.of_network_data.Lts as lts
-use Rattle.speed.proofs.sums.counts_sum.Reads as counts-sum-reads
 
 enum-known-x : tie.Need-enum-known-x
 enum-known-x c = search needs
