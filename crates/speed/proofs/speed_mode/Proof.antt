@@ -8,13 +8,13 @@ use Rattle.speed.proofs.speed_mode.Statement.{statement}
 use Rattle.speed.proofs.speed_mode.Tie as tie
 
 decode-requires : tie.Need-decode-requires
-decode-requires c κs = search needs
+decode-requires c κs = tt
 
 enum-known-m : tie.Need-enum-known-m
 enum-known-m c = search needs
 
 mode-sum-requires : tie.Need-mode-sum-requires
-mode-sum-requires c κs = search needs
+mode-sum-requires c κs = tt
 
 enum-told : tie.Need-enum-told
 enum-told c = search needs
@@ -23,7 +23,7 @@ enum-known-r : tie.Need-enum-known-r
 enum-known-r c = search needs
 
 coded-requires : tie.Need-coded-requires
-coded-requires c κs = search needs
+coded-requires c κs = tt
 
 returns : tie.Need-returns
 unfolding code

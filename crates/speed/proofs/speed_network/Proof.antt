@@ -8,19 +8,19 @@ use Rattle.speed.proofs.speed_network.Statement.{statement}
 use Rattle.speed.proofs.speed_network.Tie as tie
 
 check-requires : tie.Need-check-requires
-check-requires c κs = search needs
+check-requires c κs = tt
 
 enum-known-c : tie.Need-enum-known-c
 enum-known-c c = search needs
 
 counts-sum-requires : tie.Need-counts-sum-requires
-counts-sum-requires c κs = search needs
+counts-sum-requires c κs = tt
 
 enum-known-r : tie.Need-enum-known-r
 enum-known-r c = search needs
 
 coded-requires : tie.Need-coded-requires
-coded-requires c κs = search needs
+coded-requires c κs = tt
 
 returns : tie.Need-returns
 unfolding code

@@ -9,7 +9,7 @@ use Rattle.speed.proofs.speed_payload.Statement.{statement}
 use Rattle.speed.proofs.speed_payload.Tie as tie
 
 decode-requires : tie.Need-decode-requires
-decode-requires c κs = search needs
+decode-requires c κs = tt
 
 enum-known-d : tie.Need-enum-known-d
 enum-known-d c = search needs
@@ -21,7 +21,7 @@ enum-known-r : tie.Need-enum-known-r
 enum-known-r c = search needs
 
 coded-requires : tie.Need-coded-requires
-coded-requires c κs = search needs
+coded-requires c κs = tt
 
 returns : tie.Need-returns
 unfolding code

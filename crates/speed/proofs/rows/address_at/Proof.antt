@@ -9,13 +9,13 @@ use Rattle.speed.proofs.rows.address_at.Statement.{statement}
 use Rattle.speed.proofs.rows.address_at.Tie as tie
 
 address-requires : tie.Need-address-requires
-address-requires c κs = search needs
+address-requires c κs = tt
 
 shared-slice-read-wide : tie.Need-shared-slice-read-wide
 shared-slice-read-wide c = search needs
 
 wide-requires : tie.Need-wide-requires
-wide-requires c κs = search needs
+wide-requires c κs = tt
 
 returns : tie.Need-returns
 returns c = c .wide .ensures ∙ ap (λ (l : List ℕ). getD l 15 0) (c .before .before .before .address .ensures)

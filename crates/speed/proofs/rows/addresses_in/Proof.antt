@@ -21,7 +21,7 @@ part-addresses-sum-end : tie.Need-part-addresses-sum-end
 part-addresses-sum-end c = omega (arith, held _ _ _ _ (c .before .p .given .1) (c .before .before .before .before .pre))
 
 addresses-sum-requires : tie.Need-addresses-sum-requires
-addresses-sum-requires c κs = search needs
+addresses-sum-requires c κs = tt
 
 enum-told : tie.Need-enum-told
 enum-told c = search needs

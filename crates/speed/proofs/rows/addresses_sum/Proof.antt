@@ -19,10 +19,10 @@ unfolding summed
 loop-holds c = (refl, search needs, refl)
 
 address-at-requires : tie.Need-address-at-requires Inv-loop μ-loop
-address-at-requires c κs = search needs
+address-at-requires c κs = tt
 
 plus-requires : tie.Need-plus-requires Inv-loop μ-loop
-plus-requires c κs = search needs
+plus-requires c κs = tt
 
 add-k : tie.Need-add-k Inv-loop μ-loop
 add-k c = search needs

@@ -11,7 +11,7 @@ use Rattle.speed.proofs.rows.list_sum.Statement.{statement}
 use Rattle.speed.proofs.rows.list_sum.Tie as tie
 
 decode-child-ipv6-addresses-requires : tie.Need-decode-child-ipv6-addresses-requires
-decode-child-ipv6-addresses-requires c κs = search needs
+decode-child-ipv6-addresses-requires c κs = tt
 
 enum-known-x : tie.Need-enum-known-x
 enum-known-x c = search needs
@@ -23,13 +23,13 @@ cast-plus : tie.Need-cast-plus
 cast-plus c = search needs
 
 plus-requires : tie.Need-plus-requires
-plus-requires c κs = search needs
+plus-requires c κs = tt
 
 cast-plus-2 : tie.Need-cast-plus-2
 cast-plus-2 c = search needs
 
 plus-requires-2 : tie.Need-plus-requires-2
-plus-requires-2 c κs = search needs
+plus-requires-2 c κs = tt
 
 sub-addresses-sum : tie.Need-sub-addresses-sum
 sub-addresses-sum c = omega arith
@@ -41,10 +41,10 @@ part-addresses-sum-end : tie.Need-part-addresses-sum-end
 part-addresses-sum-end c = omega (arith, list-inside _ _ (sym (ap addressListAnswer (c .before .before .before .before .before .before .x .given .1)) ∙ c .before .before .before .before .before .before .before .before .decode-child-ipv6-addresses .ensures))
 
 addresses-sum-requires : tie.Need-addresses-sum-requires
-addresses-sum-requires c κs = search needs
+addresses-sum-requires c κs = tt
 
 plus-requires-3 : tie.Need-plus-requires-3
-plus-requires-3 c κs = search needs
+plus-requires-3 c κs = tt
 
 enum-told : tie.Need-enum-told
 enum-told c = search needs

@@ -25,7 +25,7 @@ loop-holds : tie.Need-loop-holds Inv-loop μ-loop
 loop-holds c = (search needs, ap (λ (w : Framing). listsOnto 0 (allOf 30 (w .entries))) (from-start _))
 
 next-child-list-requires : tie.Need-next-child-list-requires Inv-loop μ-loop
-next-child-list-requires c κs = search needs
+next-child-list-requires c κs = tt
 
 enum-known-start : tie.Need-enum-known-start Inv-loop μ-loop
 enum-known-start c = search needs
@@ -45,10 +45,10 @@ part-list-sum-end c =
     omega (arith, follows _ _ _ _ _ (sym (ap foundAnswer (c .before .start .given .1)) ∙ c .before .before .before .next-child-list .ensures) .inside)
 
 list-sum-requires : tie.Need-list-sum-requires Inv-loop μ-loop
-list-sum-requires c κs = search needs
+list-sum-requires c κs = tt
 
 plus-requires : tie.Need-plus-requires Inv-loop μ-loop
-plus-requires c κs = search needs
+plus-requires c κs = tt
 
 loop-less : tie.Need-loop-less Inv-loop μ-loop
 loop-less c =

@@ -25,7 +25,7 @@ cast-plus : tie.Need-cast-plus Inv-loop μ-loop
 cast-plus c = search needs
 
 plus-requires : tie.Need-plus-requires Inv-loop μ-loop
-plus-requires c κs = search needs
+plus-requires c κs = tt
 
 add-k : tie.Need-add-k Inv-loop μ-loop
 add-k c = search needs

@@ -5,45 +5,44 @@ use Rattle.diag.specs.Answers.{optPart, diagOf}
 use Rattle.speed.specs.Rows.{routes, children, addressesSum, payloadSum}
 use Rattle.speed.proofs.Sizes.{adds}
 use Rattle.speed.proofs.Rowed.{routes-inside, children-inside, addresses-inside, of-part}
-use borrow.Author.Needs.{needs}
 use Rattle.speed.proofs.rows.payload_sum.Statement.{statement}
 use Rattle.speed.proofs.rows.payload_sum.Tie as tie
 
 values-sum-requires : tie.Need-values-sum-requires
-values-sum-requires c κs = search needs
+values-sum-requires c κs = tt
 
 plus-requires : tie.Need-plus-requires
-plus-requires c κs = search needs
+plus-requires c κs = tt
 
 parts-sum-requires : tie.Need-parts-sum-requires
-parts-sum-requires c κs = search needs
+parts-sum-requires c κs = tt
 
 plus-requires-2 : tie.Need-plus-requires-2
-plus-requires-2 c κs = search needs
+plus-requires-2 c κs = tt
 
 routes-in-requires : tie.Need-routes-in-requires
 routes-in-requires c κs = routes-inside _ _ (c .before .before .before .before .before .pre)
 
 plus-requires-3 : tie.Need-plus-requires-3
-plus-requires-3 c κs = search needs
+plus-requires-3 c κs = tt
 
 children-in-requires : tie.Need-children-in-requires
 children-in-requires c κs = children-inside _ _ (c .before .before .before .before .before .before .before .pre)
 
 plus-requires-4 : tie.Need-plus-requires-4
-plus-requires-4 c κs = search needs
+plus-requires-4 c κs = tt
 
 addresses-in-requires : tie.Need-addresses-in-requires
 addresses-in-requires c κs = addresses-inside _ _ (c .before .before .before .before .before .before .before .before .before .pre)
 
 plus-requires-5 : tie.Need-plus-requires-5
-plus-requires-5 c κs = search needs
+plus-requires-5 c κs = tt
 
 lists-sum-requires : tie.Need-lists-sum-requires
-lists-sum-requires c κs = search needs
+lists-sum-requires c κs = tt
 
 plus-requires-6 : tie.Need-plus-requires-6
-plus-requires-6 c κs = search needs
+plus-requires-6 c κs = tt
 
 returns : tie.Need-returns
 unfolding payloadSum diagOf

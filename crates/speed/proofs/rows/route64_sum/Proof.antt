@@ -9,19 +9,19 @@ cast-plus : tie.Need-cast-plus
 cast-plus c = search needs
 
 plus-requires : tie.Need-plus-requires
-plus-requires c κs = search needs
+plus-requires c κs = tt
 
 mask-sum-requires : tie.Need-mask-sum-requires
-mask-sum-requires c κs = search needs
+mask-sum-requires c κs = tt
 
 plus-requires-2 : tie.Need-plus-requires-2
-plus-requires-2 c κs = search needs
+plus-requires-2 c κs = tt
 
 routes-sum-requires : tie.Need-routes-sum-requires
-routes-sum-requires c κs = search needs
+routes-sum-requires c κs = tt
 
 plus-requires-3 : tie.Need-plus-requires-3
-plus-requires-3 c κs = search needs
+plus-requires-3 c κs = tt
 
 returns : tie.Need-returns
 unfolding route64Sum

@@ -26,10 +26,10 @@ array-copy-out-route-sum : tie.Need-array-copy-out-route-sum Inv-loop μ-loop
 array-copy-out-route-sum c = search needs
 
 route-sum-requires : tie.Need-route-sum-requires Inv-loop μ-loop
-route-sum-requires c κs = search needs
+route-sum-requires c κs = tt
 
 plus-requires : tie.Need-plus-requires Inv-loop μ-loop
-plus-requires c κs = search needs
+plus-requires c κs = tt
 
 add-k : tie.Need-add-k Inv-loop μ-loop
 add-k c = search needs

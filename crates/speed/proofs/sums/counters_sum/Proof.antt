@@ -8,55 +8,55 @@ cast-plus : tie.Need-cast-plus
 cast-plus c = search needs
 
 plus-requires : tie.Need-plus-requires
-plus-requires c κs = search needs
+plus-requires c κs = tt
 
 cast-plus-2 : tie.Need-cast-plus-2
 cast-plus-2 c = search needs
 
 plus-requires-2 : tie.Need-plus-requires-2
-plus-requires-2 c κs = search needs
+plus-requires-2 c κs = tt
 
 cast-plus-3 : tie.Need-cast-plus-3
 cast-plus-3 c = search needs
 
 plus-requires-3 : tie.Need-plus-requires-3
-plus-requires-3 c κs = search needs
+plus-requires-3 c κs = tt
 
 cast-plus-4 : tie.Need-cast-plus-4
 cast-plus-4 c = search needs
 
 plus-requires-4 : tie.Need-plus-requires-4
-plus-requires-4 c κs = search needs
+plus-requires-4 c κs = tt
 
 cast-plus-5 : tie.Need-cast-plus-5
 cast-plus-5 c = search needs
 
 plus-requires-5 : tie.Need-plus-requires-5
-plus-requires-5 c κs = search needs
+plus-requires-5 c κs = tt
 
 cast-plus-6 : tie.Need-cast-plus-6
 cast-plus-6 c = search needs
 
 plus-requires-6 : tie.Need-plus-requires-6
-plus-requires-6 c κs = search needs
+plus-requires-6 c κs = tt
 
 cast-plus-7 : tie.Need-cast-plus-7
 cast-plus-7 c = search needs
 
 plus-requires-7 : tie.Need-plus-requires-7
-plus-requires-7 c κs = search needs
+plus-requires-7 c κs = tt
 
 cast-plus-8 : tie.Need-cast-plus-8
 cast-plus-8 c = search needs
 
 plus-requires-8 : tie.Need-plus-requires-8
-plus-requires-8 c κs = search needs
+plus-requires-8 c κs = tt
 
 cast-plus-9 : tie.Need-cast-plus-9
 cast-plus-9 c = search needs
 
 plus-requires-9 : tie.Need-plus-requires-9
-plus-requires-9 c κs = search needs
+plus-requires-9 c κs = tt
 
 returns : tie.Need-returns
 returns c =

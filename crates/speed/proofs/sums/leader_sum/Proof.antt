@@ -8,31 +8,31 @@ cast-plus : tie.Need-cast-plus
 cast-plus c = search needs
 
 plus-requires : tie.Need-plus-requires
-plus-requires c κs = search needs
+plus-requires c κs = tt
 
 cast-plus-2 : tie.Need-cast-plus-2
 cast-plus-2 c = search needs
 
 plus-requires-2 : tie.Need-plus-requires-2
-plus-requires-2 c κs = search needs
+plus-requires-2 c κs = tt
 
 cast-plus-3 : tie.Need-cast-plus-3
 cast-plus-3 c = search needs
 
 plus-requires-3 : tie.Need-plus-requires-3
-plus-requires-3 c κs = search needs
+plus-requires-3 c κs = tt
 
 cast-plus-4 : tie.Need-cast-plus-4
 cast-plus-4 c = search needs
 
 plus-requires-4 : tie.Need-plus-requires-4
-plus-requires-4 c κs = search needs
+plus-requires-4 c κs = tt
 
 cast-plus-5 : tie.Need-cast-plus-5
 cast-plus-5 c = search needs
 
 plus-requires-5 : tie.Need-plus-requires-5
-plus-requires-5 c κs = search needs
+plus-requires-5 c κs = tt
 
 returns : tie.Need-returns
 returns c =

@@ -6,7 +6,7 @@ enum-known-x : tie.Need-enum-known-x
 enum-known-x c = search needs
 
 connectivity-sum-requires : tie.Need-connectivity-sum-requires
-connectivity-sum-requires c κs = search needs
+connectivity-sum-requires c κs = tt
 
 enum-told : tie.Need-enum-told
 enum-told c = search needs

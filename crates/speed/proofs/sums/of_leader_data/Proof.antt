@@ -6,7 +6,7 @@ enum-known-x : tie.Need-enum-known-x
 enum-known-x c = search needs
 
 leader-sum-requires : tie.Need-leader-sum-requires
-leader-sum-requires c κs = search needs
+leader-sum-requires c κs = tt
 
 enum-told : tie.Need-enum-told
 enum-told c = search needs

@@ -6,7 +6,7 @@ enum-known-x : tie.Need-enum-known-x
 enum-known-x c = search needs
 
 counters-sum-requires : tie.Need-counters-sum-requires
-counters-sum-requires c κs = search needs
+counters-sum-requires c κs = tt
 
 enum-told : tie.Need-enum-told
 enum-told c = search needs

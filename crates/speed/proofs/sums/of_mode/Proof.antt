@@ -6,7 +6,7 @@ enum-known-x : tie.Need-enum-known-x
 enum-known-x c = search needs
 
 mode-sum-requires : tie.Need-mode-sum-requires
-mode-sum-requires c κs = search needs
+mode-sum-requires c κs = tt
 
 enum-told : tie.Need-enum-told
 enum-told c = search needs

@@ -6,7 +6,7 @@ enum-known-x : tie.Need-enum-known-x
 enum-known-x c = search needs
 
 counts-sum-requires : tie.Need-counts-sum-requires
-counts-sum-requires c κs = search needs
+counts-sum-requires c κs = tt
 
 enum-told : tie.Need-enum-told
 enum-told c = search needs

@@ -4,36 +4,35 @@ use Rattle.diag.specs.Diag.{raw}
 use Rattle.diag.specs.Answers.{optPart, diagOf}
 use Rattle.speed.specs.Sums.{partsSum}
 use Rattle.speed.proofs.Sizes.{adds, part-size}
-use borrow.Author.Needs.{needs}
 use Rattle.speed.proofs.sums.parts_sum.Statement.{statement}
 use Rattle.speed.proofs.sums.parts_sum.Tie as tie
 
 plus-requires : tie.Need-plus-requires
-plus-requires c κs = search needs
+plus-requires c κs = tt
 
 of-part-requires : tie.Need-of-part-requires
-of-part-requires c κs = search needs
+of-part-requires c κs = tt
 
 plus-requires-2 : tie.Need-plus-requires-2
-plus-requires-2 c κs = search needs
+plus-requires-2 c κs = tt
 
 of-part-requires-2 : tie.Need-of-part-requires-2
-of-part-requires-2 c κs = search needs
+of-part-requires-2 c κs = tt
 
 plus-requires-3 : tie.Need-plus-requires-3
-plus-requires-3 c κs = search needs
+plus-requires-3 c κs = tt
 
 of-part-requires-3 : tie.Need-of-part-requires-3
-of-part-requires-3 c κs = search needs
+of-part-requires-3 c κs = tt
 
 plus-requires-4 : tie.Need-plus-requires-4
-plus-requires-4 c κs = search needs
+plus-requires-4 c κs = tt
 
 of-part-requires-4 : tie.Need-of-part-requires-4
-of-part-requires-4 c κs = search needs
+of-part-requires-4 c κs = tt
 
 plus-requires-5 : tie.Need-plus-requires-5
-plus-requires-5 c κs = search needs
+plus-requires-5 c κs = tt
 
 returns : tie.Need-returns
 unfolding partsSum diagOf

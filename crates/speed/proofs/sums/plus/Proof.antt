@@ -4,7 +4,7 @@ use Rattle.speed.proofs.sums.plus.Statement.{statement}
 use Rattle.speed.proofs.sums.plus.Tie as tie
 
 wrapping-add-u64-requires : tie.Need-wrapping-add-u64-requires
-wrapping-add-u64-requires c κs = search needs
+wrapping-add-u64-requires c κs = tt
 
 returns : tie.Need-returns
 unfolding plus

@@ -2,63 +2,62 @@ use mathlib.Core.Path.{refl}
 use Rattle.diag.specs.Answers.{diagOf}
 use Rattle.speed.specs.Sums.{valuesSum}
 use Rattle.speed.proofs.Sizes.{adds}
-use borrow.Author.Needs.{needs}
 use Rattle.speed.proofs.sums.values_sum.Statement.{statement}
 use Rattle.speed.proofs.sums.values_sum.Tie as tie
 
 of-u16-requires : tie.Need-of-u16-requires
-of-u16-requires c κs = search needs
+of-u16-requires c κs = tt
 
 plus-requires : tie.Need-plus-requires
-plus-requires c κs = search needs
+plus-requires c κs = tt
 
 of-u32-requires : tie.Need-of-u32-requires
-of-u32-requires c κs = search needs
+of-u32-requires c κs = tt
 
 plus-requires-2 : tie.Need-plus-requires-2
-plus-requires-2 c κs = search needs
+plus-requires-2 c κs = tt
 
 of-u8-requires : tie.Need-of-u8-requires
-of-u8-requires c κs = search needs
+of-u8-requires c κs = tt
 
 plus-requires-3 : tie.Need-plus-requires-3
-plus-requires-3 c κs = search needs
+plus-requires-3 c κs = tt
 
 of-u16-requires-2 : tie.Need-of-u16-requires-2
-of-u16-requires-2 c κs = search needs
+of-u16-requires-2 c κs = tt
 
 plus-requires-4 : tie.Need-plus-requires-4
-plus-requires-4 c κs = search needs
+plus-requires-4 c κs = tt
 
 of-mode-requires : tie.Need-of-mode-requires
-of-mode-requires c κs = search needs
+of-mode-requires c κs = tt
 
 plus-requires-5 : tie.Need-plus-requires-5
-plus-requires-5 c κs = search needs
+plus-requires-5 c κs = tt
 
 of-leader-data-requires : tie.Need-of-leader-data-requires
-of-leader-data-requires c κs = search needs
+of-leader-data-requires c κs = tt
 
 plus-requires-6 : tie.Need-plus-requires-6
-plus-requires-6 c κs = search needs
+plus-requires-6 c κs = tt
 
 of-network-data-requires : tie.Need-of-network-data-requires
-of-network-data-requires c κs = search needs
+of-network-data-requires c κs = tt
 
 plus-requires-7 : tie.Need-plus-requires-7
-plus-requires-7 c κs = search needs
+plus-requires-7 c κs = tt
 
 of-connectivity-requires : tie.Need-of-connectivity-requires
-of-connectivity-requires c κs = search needs
+of-connectivity-requires c κs = tt
 
 plus-requires-8 : tie.Need-plus-requires-8
-plus-requires-8 c κs = search needs
+plus-requires-8 c κs = tt
 
 of-mac-counters-requires : tie.Need-of-mac-counters-requires
-of-mac-counters-requires c κs = search needs
+of-mac-counters-requires c κs = tt
 
 plus-requires-9 : tie.Need-plus-requires-9
-plus-requires-9 c κs = search needs
+plus-requires-9 c κs = tt
 
 returns : tie.Need-returns
 unfolding valuesSum diagOf
