@@ -1,3 +1,5 @@
+-- `speed::coded` meets its contract.
+-- Assumes nothing.
 use Rattle.speed.specs.Code.{code}
 use borrow.Author.Needs.{needs}
 use Rattle.speed.proofs.coded.Statement.{statement}

@@ -1,3 +1,5 @@
+-- `speed::speed_count` meets its contract.
+-- Assumes nothing.
 use mathlib.Core.Path.{_∙_, ap, sym}
 use Rattle.speed.specs.Code.{code}
 use Rattle.tlv.specs.Answers.{countedAnswer}

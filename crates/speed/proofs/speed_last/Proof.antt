@@ -1,3 +1,5 @@
+-- `speed::speed_last` meets its contract.
+-- Assumes nothing.
 use mathlib.Core.Path.{ap}
 use lib.ListN.{length}
 use borrow.Author.Needs.{needs}

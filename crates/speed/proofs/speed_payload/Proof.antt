@@ -1,3 +1,5 @@
+-- `speed::speed_payload` meets its contract.
+-- Assumes nothing.
 use denote.Ref.{now}
 use mathlib.Core.Path.{_∙_, ap, sym}
 use Rattle.refusal.specs.Answer.{onGiven}

@@ -1,3 +1,5 @@
+-- `speed::rows::child_at` meets its contract.
+-- Assumes nothing.
 use mathlib.Core.Path.{sym, ap, _∙_}
 use Rattle.diag_values.specs.Answers.{childAnswer}
 use Rattle.speed.specs.Sums.{orZero}

@@ -1,3 +1,5 @@
+-- `speed::rows::list_sum` meets its contract.
+-- Assumes nothing.
 use native.Mathlib.Nat.{add-sub-cancel-left}
 use mathlib.Core.Path.{refl, sym, ap, _∙_}
 use native.Mathlib.Omega.{arith}

@@ -1,3 +1,5 @@
+-- `speed::rows::lists_sum` meets its contract. The invariant: the lists from at on, added to what is summed so far, make the sum of all.
+-- Assumes nothing.
 use Rattle.speed.specs.Sums.{plus}
 use mathlib.Core.Path.{_≡_, sym, ap, _∙_}
 use Prim.Native.Nat.{_-_, _≤_}

@@ -1,3 +1,5 @@
+-- `speed::rows::payload_sum` meets its contract.
+-- Assumes nothing.
 use mathlib.Core.Path.{_∙_, refl}
 use Rattle.diag_values.specs.Routes.{routeOf}
 use Rattle.diag_values.specs.Rows.{childRows, addresses}

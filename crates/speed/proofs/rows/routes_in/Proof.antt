@@ -1,3 +1,5 @@
+-- `speed::rows::routes_in` meets its contract.
+-- Assumes nothing.
 use Rattle.speed.specs.Rows.{route64Sum}
 use Rattle.diag_values.specs.Routes.{RouteRead}
 use Rattle.speed.proofs.Rowed.{held}

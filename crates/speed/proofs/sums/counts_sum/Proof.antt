@@ -1,3 +1,5 @@
+-- `speed::sums::counts_sum` meets its contract.
+-- Assumes nothing.
 use Rattle.speed.proofs.Sizes.{adds}
 use mathlib.Core.Path.{refl}
 use Rattle.speed.proofs.sums.counts_sum.Statement.{statement}

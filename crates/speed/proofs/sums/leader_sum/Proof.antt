@@ -1,3 +1,5 @@
+-- `speed::sums::leader_sum` meets its contract.
+-- Assumes nothing.
 use Rattle.speed.proofs.Sizes.{adds}
 use mathlib.Core.Path.{refl}
 use borrow.Author.Needs.{needs}

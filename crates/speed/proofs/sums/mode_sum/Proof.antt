@@ -1,3 +1,5 @@
+-- `speed::sums::mode_sum` meets its contract.
+-- Assumes nothing.
 use Rattle.speed.proofs.Sizes.{adds}
 use mathlib.Core.Path.{refl}
 use Rattle.speed.proofs.sums.mode_sum.Statement.{statement}

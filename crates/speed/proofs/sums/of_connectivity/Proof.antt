@@ -1,3 +1,5 @@
+-- `speed::sums::of_connectivity` meets its contract.
+-- Assumes nothing.
 use borrow.Author.Needs.{needs}
 use Rattle.speed.proofs.sums.of_connectivity.Statement.{statement}
 use Rattle.speed.proofs.sums.of_connectivity.Tie as tie

@@ -1,3 +1,5 @@
+-- `speed::sums::of_mac_counters` meets its contract.
+-- Assumes nothing.
 use borrow.Author.Needs.{needs}
 use Rattle.speed.proofs.sums.of_mac_counters.Statement.{statement}
 use Rattle.speed.proofs.sums.of_mac_counters.Tie as tie

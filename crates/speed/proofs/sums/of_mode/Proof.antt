@@ -1,3 +1,5 @@
+-- `speed::sums::of_mode` meets its contract.
+-- Assumes nothing.
 use borrow.Author.Needs.{needs}
 use Rattle.speed.proofs.sums.of_mode.Statement.{statement}
 use Rattle.speed.proofs.sums.of_mode.Tie as tie

@@ -1,3 +1,5 @@
+-- `speed::sums::parts_sum` meets its contract.
+-- Assumes nothing.
 use denote.Ref.{now}
 use mathlib.Core.Path.{_∙_, refl}
 use Rattle.diag.specs.Diag.{raw}

@@ -1,3 +1,5 @@
+-- `speed::sums::plus` meets its contract.
+-- Assumes nothing.
 use borrow.Author.Needs.{needs}
 use Rattle.speed.specs.Sums.{plus}
 use Rattle.speed.proofs.sums.plus.Statement.{statement}

@@ -1,3 +1,5 @@
+-- `speed::sums::rank` meets its contract.
+-- Assumes nothing.
 use borrow.Author.Tests.{ne-eqb}
 use Rattle.speed.proofs.sums.rank.Statement.{statement}
 use Rattle.speed.proofs.sums.rank.Tie as tie

@@ -1,3 +1,5 @@
+-- `speed::sums::values_sum` meets its contract.
+-- Assumes nothing.
 use mathlib.Core.Path.{refl}
 use Rattle.diag.specs.Answers.{diagOf}
 use Rattle.speed.specs.Sums.{valuesSum}
