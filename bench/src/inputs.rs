@@ -1,5 +1,7 @@
 //! The inputs of about so many bytes, the same for both sides.
 
+use crate::diagnostics::Diagnostics;
+
 pub const MOST: usize = 8192;
 
 pub struct Input {
@@ -9,6 +11,7 @@ pub struct Input {
     pub ascii: Vec<u8>,
     pub mixed: Vec<u8>,
     pub list: Vec<u8>,
+    pub diag: Diagnostics,
 }
 
 /// Entries of 64 bytes: 128 of them are 8,192 bytes.
@@ -42,6 +45,7 @@ impl Input {
             ascii: (0..size).map(|k| b'a' + (k % 26) as u8).collect(),
             mixed: "aé本😀".bytes().cycle().take(size / 10 * 10).collect(),
             list: list(size),
+            diag: Diagnostics::of(size),
             dataset,
         }
     }

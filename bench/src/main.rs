@@ -1,15 +1,17 @@
 //! Both sides in one program: `both WORK SIDE SIZE TURNS` does WORK that many times on an input of about SIZE bytes, by the
 //! library (ours) or by the Rust (rust), and prints what it got; `both list` prints the names of the work.
+mod diagnostics;
 mod inputs;
 mod ours;
 mod rust;
+mod sums;
 
 use inputs::Input;
 
 type Work = fn(&Input, &mut [u8]) -> u64;
 
 /// Each with the library's way and the Rust's.
-const WORK: [(&str, Work, Work); 9] = [
+const WORK: [(&str, Work, Work); 22] = [
     ("framing", ours::framing, rust::framing),
     ("rewrite", ours::rewrite, rust::rewrite),
     ("last_value", ours::last_value, rust::last_value),
@@ -19,6 +21,19 @@ const WORK: [(&str, Work, Work); 9] = [
     ("utf8_mixed", ours::utf8_mixed, rust::utf8_mixed),
     ("run", ours::run, rust::run),
     ("fold", ours::fold, rust::fold),
+    ("u8", |i, _| ours::payload(&i.diag.byte), |i, _| rust::payload(&i.diag.byte)),
+    ("u16", |i, _| ours::payload(&i.diag.short), |i, _| rust::payload(&i.diag.short)),
+    ("u32", |i, _| ours::payload(&i.diag.long), |i, _| rust::payload(&i.diag.long)),
+    ("mode", |i, _| ours::mode(&i.diag.mode), |i, _| rust::mode(&i.diag.mode)),
+    ("connectivity", |i, _| ours::payload(&i.diag.connectivity), |i, _| rust::payload(&i.diag.connectivity)),
+    ("leader_data", |i, _| ours::payload(&i.diag.leader_data), |i, _| rust::payload(&i.diag.leader_data)),
+    ("mac_counters", |i, _| ours::payload(&i.diag.mac_counters), |i, _| rust::payload(&i.diag.mac_counters)),
+    ("route64", |i, _| ours::payload(&i.diag.route64), |i, _| rust::payload(&i.diag.route64)),
+    ("network_data", |i, _| ours::network_data(&i.diag.network_data), |i, _| rust::network_data(&i.diag.network_data)),
+    ("addresses", |i, _| ours::payload(&i.diag.addresses), |i, _| rust::payload(&i.diag.addresses)),
+    ("child_table", |i, _| ours::payload(&i.diag.child_table), |i, _| rust::payload(&i.diag.child_table)),
+    ("child_lists", |i, _| ours::payload(&i.diag.child_addresses), |i, _| rust::payload(&i.diag.child_addresses)),
+    ("payload", |i, _| ours::payload(&i.diag.payload), |i, _| rust::payload(&i.diag.payload)),
 ];
 
 fn main() {

@@ -10,6 +10,9 @@ unsafe extern "C" {
     fn speed_utf8(s: *const u8, n: usize) -> bool;
     fn speed_run(d: *const u8, m: usize, l: *const u8, n: usize, out: *mut u8, room: usize) -> u64;
     fn speed_fold(l: *const u8, n: usize, out: *mut u8, room: usize) -> u64;
+    fn speed_mode(s: *const u8, n: usize) -> u64;
+    fn speed_network(s: *const u8, n: usize) -> u64;
+    fn speed_payload(s: *const u8, n: usize) -> u64;
 }
 
 pub fn framing(input: &Input, _: &mut [u8]) -> u64 {
@@ -47,4 +50,16 @@ pub fn run(input: &Input, out: &mut [u8]) -> u64 {
 
 pub fn fold(input: &Input, out: &mut [u8]) -> u64 {
     unsafe { speed_fold(input.list.as_ptr(), input.list.len(), out.as_mut_ptr(), out.len()) }
+}
+
+pub fn mode(bytes: &[u8]) -> u64 {
+    unsafe { speed_mode(bytes.as_ptr(), bytes.len()) }
+}
+
+pub fn network_data(bytes: &[u8]) -> u64 {
+    unsafe { speed_network(bytes.as_ptr(), bytes.len()) }
+}
+
+pub fn payload(bytes: &[u8]) -> u64 {
+    unsafe { speed_payload(bytes.as_ptr(), bytes.len()) }
 }

@@ -1,6 +1,8 @@
 //! The Rust's side, by its public functions and the crates that it uses.
 use crate::inputs::{Input, MOST};
+use crate::sums;
 use meshcop::dataset::Dataset;
+use meshcop::meshcop::diag::{ModeData, NetDiagData, NetworkData};
 use meshcop::tlv::{TlvEntry, TlvSet};
 
 /// What the library answers for a refusal: 2^63 and its number.
@@ -71,4 +73,17 @@ pub fn fold(input: &Input, out: &mut [u8]) -> u64 {
         TlvEntry::encode(entry, &mut bytes).expect("an entry");
     }
     written(&bytes, out)
+}
+
+pub fn mode(value: &[u8]) -> u64 {
+    ModeData::decode(value).map_or(NONE, |mode| sums::mode(&mode))
+}
+
+pub fn network_data(value: &[u8]) -> u64 {
+    NetworkData::decode(value).map_or(NONE, |data| sums::network_data(&data))
+}
+
+/// A payload; and a value, as its one entry, whose decoder the Rust keeps to itself.
+pub fn payload(bytes: &[u8]) -> u64 {
+    NetDiagData::decode(bytes).map_or(NONE, |data| sums::values(&data) + sums::rows(&data))
 }

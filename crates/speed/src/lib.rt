@@ -1,9 +1,20 @@
 // The calls whose instructions bench/ counts, under C names: each answers what is given, or 2^63 plus the number of the refusal.
+mod rows;
+mod sums;
+
+use diag::Decoded;
+use diag::NetDiagData;
+use diag_values::ModeData;
+use diag_values::ReadMode;
+use network_data::Checked;
 use refusal::Written;
+use rows::payload_sum;
+use sums::counts_sum;
+use sums::mode_sum;
 use tlv::Counted;
 ghost use mathlib.Core.Path.{_≡_};
 ghost use lib.ListN.{length};
-ghost use Rattle.refusal.specs.Answer.{given};
+ghost use Rattle.refusal.specs.Answer.{given, onGiven};
 ghost use Rattle.refusal.specs.Output.{emit, writtenAnswer};
 ghost use Rattle.tlv.specs.Limits.{count};
 ghost use Rattle.tlv.specs.Last.{lastValue};
@@ -13,7 +24,13 @@ ghost use Rattle.base16.specs.Base16.{decoded, hexText};
 ghost use Rattle.utf8.specs.Utf8.{octets};
 ghost use Rattle.changes.specs.Run.{ran};
 ghost use Rattle.changes.specs.Fold.{folded};
+ghost use Rattle.network_data.specs.Decode.{countsOf, decodeNetworkData};
+ghost use Rattle.diag_values.specs.Values.{modeValue};
+ghost use Rattle.diag_values.specs.Rule.{valueOf};
+ghost use Rattle.diag.specs.Diag.{decode};
 ghost use Rattle.speed.specs.Code.{code};
+ghost use Rattle.speed.specs.Sums.{modeSum, countsSum};
+ghost use Rattle.speed.specs.Rows.{payloadSum};
 
 const NONE: u64 = 9223372036854775808;
 
@@ -86,4 +103,35 @@ pub extern "C" fn speed_fold(list: &[u8], out: &mut [u8]) -> u64
     ensures { λ r. ⌜ (r ≡ code (emit (folded (now (list .entry))) (now (out .entry)) .answer)) × (now (out .exit) ≡ emit (folded (now (list .entry))) (now (out .entry)) .left) ⌝ }
 {
     coded(changes::fold(list, out))
+}
+
+#[no_mangle]
+pub extern "C" fn speed_mode(value: &[u8]) -> u64
+    ensures { λ r. ⌜ r ≡ code (onGiven modeSum (onGiven modeValue (valueOf 2 0 (now (value .entry))))) ⌝ }
+{
+    match ModeData::decode(value, 0) {
+        ReadMode::Value(m) => mode_sum(m),
+        ReadMode::Absent => NONE,
+        ReadMode::Refused(r) => coded(Written::Refused(r)),
+    }
+}
+
+#[no_mangle]
+pub extern "C" fn speed_network(value: &[u8]) -> u64
+    ensures { λ r. ⌜ r ≡ code (onGiven countsSum (onGiven countsOf (decodeNetworkData 0 (now (value .entry))))) ⌝ }
+{
+    match network_data::check(value, 0) {
+        Checked::Counted(c) => counts_sum(c),
+        Checked::Refused(r) => coded(Written::Refused(r)),
+    }
+}
+
+#[no_mangle]
+pub extern "C" fn speed_payload(payload: &[u8]) -> u64
+    ensures { λ r. ⌜ r ≡ code (onGiven (payloadSum (now (payload .entry))) (decode (now (payload .entry)))) ⌝ }
+{
+    match NetDiagData::decode(payload) {
+        Decoded::Data(d) => payload_sum(payload, d),
+        Decoded::Refused(r) => coded(Written::Refused(r)),
+    }
 }

@@ -1,10 +1,9 @@
+-- `speed::coded` meets its contract.
+-- Assumes nothing.
 use Rattle.speed.specs.Code.{code}
 use borrow.Author.Needs.{needs}
 use Rattle.speed.proofs.coded.Statement.{statement}
 use Rattle.speed.proofs.coded.Tie as tie
-use Rattle.speed.proofs.coded.Reads as reads
-use Rattle.speed.proofs.coded.Lts as lts
-use Rattle.refusal.proofs.Fault.number.Reads as number-reads
 
 enum-known-w : tie.Need-enum-known-w
 enum-known-w c = search needs

@@ -1,13 +1,11 @@
+-- `speed::speed_count` meets its contract.
+-- Assumes nothing.
 use mathlib.Core.Path.{_∙_, ap, sym}
 use Rattle.speed.specs.Code.{code}
 use Rattle.tlv.specs.Answers.{countedAnswer}
 use borrow.Author.Needs.{needs}
 use Rattle.speed.proofs.speed_count.Statement.{statement}
 use Rattle.speed.proofs.speed_count.Tie as tie
-use Rattle.speed.proofs.speed_count.Reads as reads
-use Rattle.speed.proofs.speed_count.Lts as lts
-use Rattle.speed.proofs.coded.Reads as coded-reads
-use Rattle.tlv.proofs.count_entries.Reads as count-entries-reads
 
 count-entries-requires : tie.Need-count-entries-requires
 count-entries-requires c κs = search needs

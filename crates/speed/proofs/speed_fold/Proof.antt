@@ -1,13 +1,11 @@
-use mathlib.Core.Path.{_∙_, ap, sym}
+-- `speed::speed_fold` meets its contract.
+-- Assumes nothing.
+use mathlib.Core.Path.{_∙_, ap}
 use Rattle.speed.specs.Code.{code}
 use Rattle.refusal.specs.Output.{Output}
 use borrow.Author.Needs.{needs}
 use Rattle.speed.proofs.speed_fold.Statement.{statement}
 use Rattle.speed.proofs.speed_fold.Tie as tie
-use Rattle.speed.proofs.speed_fold.Reads as reads
-use Rattle.speed.proofs.speed_fold.Lts as lts
-use Rattle.changes.proofs.fold.Reads as fold-reads
-use Rattle.speed.proofs.coded.Reads as coded-reads
 
 fold-requires : tie.Need-fold-requires
 fold-requires c κs = search needs

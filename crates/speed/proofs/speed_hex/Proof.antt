@@ -1,13 +1,11 @@
-use mathlib.Core.Path.{_∙_, ap, sym}
+-- `speed::speed_hex` meets its contract.
+-- Assumes nothing.
+use mathlib.Core.Path.{_∙_, ap}
 use Rattle.speed.specs.Code.{code}
 use Rattle.refusal.specs.Output.{Output}
 use borrow.Author.Needs.{needs}
 use Rattle.speed.proofs.speed_hex.Statement.{statement}
 use Rattle.speed.proofs.speed_hex.Tie as tie
-use Rattle.speed.proofs.speed_hex.Reads as reads
-use Rattle.speed.proofs.speed_hex.Lts as lts
-use Rattle.base16.proofs.encode.Reads as encode-reads
-use Rattle.speed.proofs.coded.Reads as coded-reads
 
 encode-requires : tie.Need-encode-requires
 encode-requires c κs = search needs

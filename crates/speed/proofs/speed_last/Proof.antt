@@ -1,11 +1,10 @@
-use mathlib.Core.Path.{_∙_, ap, sym}
+-- `speed::speed_last` meets its contract.
+-- Assumes nothing.
+use mathlib.Core.Path.{ap}
 use lib.ListN.{length}
 use borrow.Author.Needs.{needs}
 use Rattle.speed.proofs.speed_last.Statement.{statement}
 use Rattle.speed.proofs.speed_last.Tie as tie
-use Rattle.speed.proofs.speed_last.Reads as reads
-use Rattle.speed.proofs.speed_last.Lts as lts
-use Rattle.tlv.proofs.last_value.Reads as last-value-reads
 
 last-value-requires : tie.Need-last-value-requires
 last-value-requires c κs = search needs

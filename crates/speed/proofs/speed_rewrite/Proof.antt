@@ -1,13 +1,11 @@
-use mathlib.Core.Path.{_∙_, ap, sym}
+-- `speed::speed_rewrite` meets its contract.
+-- Assumes nothing.
+use mathlib.Core.Path.{_∙_, ap}
 use Rattle.speed.specs.Code.{code}
 use Rattle.refusal.specs.Output.{Output}
 use borrow.Author.Needs.{needs}
 use Rattle.speed.proofs.speed_rewrite.Statement.{statement}
 use Rattle.speed.proofs.speed_rewrite.Tie as tie
-use Rattle.speed.proofs.speed_rewrite.Reads as reads
-use Rattle.speed.proofs.speed_rewrite.Lts as lts
-use Rattle.speed.proofs.coded.Reads as coded-reads
-use Rattle.tlv_writing.proofs.rewrite.Reads as rewrite-reads
 
 rewrite-requires : tie.Need-rewrite-requires
 rewrite-requires c κs = search needs

@@ -1,13 +1,11 @@
-use mathlib.Core.Path.{_∙_, ap, sym}
+-- `speed::speed_run` meets its contract.
+-- Assumes nothing.
+use mathlib.Core.Path.{_∙_, ap}
 use Rattle.speed.specs.Code.{code}
 use Rattle.refusal.specs.Output.{Output}
 use borrow.Author.Needs.{needs}
 use Rattle.speed.proofs.speed_run.Statement.{statement}
 use Rattle.speed.proofs.speed_run.Tie as tie
-use Rattle.speed.proofs.speed_run.Reads as reads
-use Rattle.speed.proofs.speed_run.Lts as lts
-use Rattle.changes.proofs.run.Reads as run-reads
-use Rattle.speed.proofs.coded.Reads as coded-reads
 
 run-requires : tie.Need-run-requires
 run-requires c κs = search needs

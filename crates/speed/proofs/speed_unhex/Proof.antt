@@ -1,13 +1,11 @@
-use mathlib.Core.Path.{_∙_, ap, sym}
+-- `speed::speed_unhex` meets its contract.
+-- Assumes nothing.
+use mathlib.Core.Path.{_∙_, ap}
 use Rattle.speed.specs.Code.{code}
 use Rattle.refusal.specs.Output.{Output}
 use borrow.Author.Needs.{needs}
 use Rattle.speed.proofs.speed_unhex.Statement.{statement}
 use Rattle.speed.proofs.speed_unhex.Tie as tie
-use Rattle.speed.proofs.speed_unhex.Reads as reads
-use Rattle.speed.proofs.speed_unhex.Lts as lts
-use Rattle.base16.proofs.decode.Reads as decode-reads
-use Rattle.speed.proofs.coded.Reads as coded-reads
 
 decode-requires : tie.Need-decode-requires
 decode-requires c κs = search needs
