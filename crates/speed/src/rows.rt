@@ -12,7 +12,6 @@ use diag_values::Route64;
 use diag_values::RouteDataEntry;
 use tlv::Found;
 ghost use mathlib.Core.Path.{_≡_};
-ghost use lib.ListN.{length};
 ghost use Rattle.diag.specs.Diag.{decode};
 ghost use Rattle.diag.specs.Answers.{optPart, diagOf};
 ghost use Rattle.refusal.specs.Answer.{given};
