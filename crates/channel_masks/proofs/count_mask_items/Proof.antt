@@ -1,4 +1,4 @@
--- `values::count_mask_items` meets its contract. The invariant: counting on from the place at, with n items passed, gives the answer.
+-- `channel_masks::count_mask_items` meets its contract. The invariant: counting on from the place at, with n items passed, gives the answer.
 -- The measure is what is left of the value.
 -- Assumes nothing.
 use mathlib.Core.Path.{_≡_, _∙_}

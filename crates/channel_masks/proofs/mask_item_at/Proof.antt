@@ -1,4 +1,4 @@
--- `values::mask_item_at` meets its contract: at each `return` the tests that led there say which case of `itemAt` holds.
+-- `channel_masks::mask_item_at` meets its contract: at each `return` the tests that led there say which case of `itemAt` holds.
 -- Assumes nothing.
 use Prim.Native.Nat.{_+_}
 use native.Mathlib.Omega.{arith}

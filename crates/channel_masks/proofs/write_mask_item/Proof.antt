@@ -1,4 +1,4 @@
--- `values::write_mask_item` meets its contract: the tests say whether the item is written, and then page, length and bytes are.
+-- `channel_masks::write_mask_item` meets its contract: the tests say whether the item is written, and then page, length and bytes are.
 -- Assumes nothing.
 use mathlib.Core.Path.{_∙_}
 use native.Mathlib.Omega.{arith}

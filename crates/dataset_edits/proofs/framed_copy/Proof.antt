@@ -1,4 +1,4 @@
--- `dataset::framed_copy` meets its contract: the bytes as they are, once they are counted.
+-- `dataset_edits::framed_copy` meets its contract: the bytes as they are, once they are counted.
 -- Assumes nothing.
 use mathlib.Core.Path.{_≡_, sym, ap, _∙_}
 use native.Mathlib.Omega.{arith}

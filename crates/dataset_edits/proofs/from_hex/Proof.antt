@@ -1,4 +1,4 @@
--- `dataset::from_hex` meets its contract: the scratch holds whatever is decoded.
+-- `dataset_edits::from_hex` meets its contract: the scratch holds whatever is decoded.
 -- Assumes nothing.
 use native.Mathlib.Omega.{arith}
 use Rattle.laws.proofs.Emits.{emit-refused}

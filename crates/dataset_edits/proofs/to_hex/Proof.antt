@@ -1,4 +1,4 @@
--- `dataset::to_hex` meets its contract: the scratch holds whatever is written afresh.
+-- `dataset_edits::to_hex` meets its contract: the scratch holds whatever is written afresh.
 -- Assumes nothing.
 use native.Mathlib.Omega.{arith}
 use Rattle.laws.proofs.Emits.{emit-refused}

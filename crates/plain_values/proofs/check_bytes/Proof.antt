@@ -1,4 +1,4 @@
--- `dataset::check_bytes` meets its contract, by the test of its size.
+-- `plain_values::check_bytes` meets its contract, by the test of its size.
 -- Assumes nothing.
 use borrow.Author.Tests.{lt-ltb, le-ltb}
 use Rattle.plain_values.specs.Plain.{sizedValue}

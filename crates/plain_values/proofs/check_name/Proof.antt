@@ -1,4 +1,4 @@
--- `dataset::check_name` meets its contract, by the tests of its size and its bytes.
+-- `plain_values::check_name` meets its contract, by the tests of its size and its bytes.
 -- Assumes nothing.
 use mathlib.Core.Path.{sym, _∙_}
 use borrow.Author.Tests.{lt-ltb, le-ltb}

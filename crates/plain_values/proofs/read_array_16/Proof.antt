@@ -1,4 +1,4 @@
--- `dataset::read_array_16` meets its contract. The invariant: the rest of the value stored after what is stored gives the whole of it.
+-- `plain_values::read_array_16` meets its contract. The invariant: the rest of the value stored after what is stored gives the whole of it.
 -- The measure is what is left of the 16 bytes.
 -- Assumes nothing.
 use mathlib.Core.Path.{_≡_, refl, sym, _∙_}

@@ -1,4 +1,4 @@
--- `dataset::read_array_8` meets its contract: a value of 8 bytes is its bytes by index.
+-- `plain_values::read_array_8` meets its contract: a value of 8 bytes is its bytes by index.
 -- Assumes nothing.
 use Rattle.plain_values.specs.Plain.{zeros, copied}
 use Rattle.plain_values.proofs.Copies.{elements-are, copied-not, copied-is}

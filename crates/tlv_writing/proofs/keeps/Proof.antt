@@ -1,4 +1,4 @@
--- `tlv::keeps` meets its contract.
+-- `tlv_writing::keeps` meets its contract.
 -- Assumes nothing.
 use Rattle.tlv_writing.specs.Encode.{keepsOf}
 use borrow.Author.Needs.{needs}

@@ -1,4 +1,4 @@
--- `tlv::kept_extent` meets its contract. The invariant: what is counted, and what the entries from at on take, is what all take.
+-- `tlv_writing::kept_extent` meets its contract. The invariant: what is counted, and what the entries from at on take, is what all take.
 -- The measure is what is left of the input.
 -- Assumes nothing.
 use mathlib.Core.Path.{_≡_, sym, ap, _∙_}

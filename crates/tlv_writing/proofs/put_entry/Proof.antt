@@ -1,4 +1,4 @@
--- `tlv::put_entry` meets its contract: the tests say whether the entry is written, and then the header and the value are.
+-- `tlv_writing::put_entry` meets its contract: the tests say whether the entry is written, and then the header and the value are.
 -- Assumes nothing.
 use mathlib.Core.Path.{_∙_}
 use native.Mathlib.Omega.{arith}

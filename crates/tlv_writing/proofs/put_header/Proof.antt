@@ -1,4 +1,4 @@
--- `tlv::put_header` meets its contract.
+-- `tlv_writing::put_header` meets its contract.
 -- Assumes nothing.
 use mathlib.Core.Path.{refl}
 use native.Mathlib.Omega.{arith}

@@ -1,4 +1,4 @@
--- `tlv::put_kept` meets its contract. The invariant: what is left to write, stored from here on, makes of out what all the entries make of it.
+-- `tlv_writing::put_kept` meets its contract. The invariant: what is left to write, stored from here on, makes of out what all the entries make of it.
 -- The measure is what is left of the input.
 -- Assumes nothing.
 use mathlib.Core.Path.{_≡_, refl, sym, ap, _∙_}

@@ -1,4 +1,4 @@
--- `tlv::set_last` meets its contract.
+-- `tlv_writing::set_last` meets its contract.
 -- Assumes nothing.
 use mathlib.Core.Path.{_≡_, sym, ap, _∙_}
 use mathlib.Core.List.{List}

@@ -1,4 +1,4 @@
--- `tlv::size_of` meets its contract.
+-- `tlv_writing::size_of` meets its contract.
 -- Assumes nothing.
 use borrow.Author.Tests.{le-leb, lt-leb}
 use Rattle.tlv_writing.specs.Encode.{sizeOf}

@@ -1,4 +1,4 @@
--- `tlv::write_entry` meets its contract.
+-- `tlv_writing::write_entry` meets its contract.
 -- Assumes nothing.
 use mathlib.Core.Path.{_∙_}
 use native.Mathlib.Omega.{arith}

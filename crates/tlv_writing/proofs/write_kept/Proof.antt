@@ -1,4 +1,4 @@
--- `tlv::write_kept` meets its contract.
+-- `tlv_writing::write_kept` meets its contract.
 -- Assumes nothing.
 use mathlib.Core.Path.{_≡_, sym, ap, _∙_}
 use mathlib.Core.List.{List}

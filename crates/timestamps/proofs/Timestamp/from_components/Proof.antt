@@ -1,4 +1,4 @@
--- `values::Timestamp::from_components` meets its contract: the definition in each of the bit's two cases.
+-- `timestamps::Timestamp::from_components` meets its contract: the definition in each of the bit's two cases.
 -- Assumes nothing.
 use native.Mathlib.Nat.{add-zero}
 use borrow.Author.Needs.{needs}

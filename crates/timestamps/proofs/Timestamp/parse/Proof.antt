@@ -1,4 +1,4 @@
--- `values::Timestamp::parse` meets its contract: it is the read of 8 bytes.
+-- `timestamps::Timestamp::parse` meets its contract: it is the read of 8 bytes.
 -- Assumes nothing.
 use mathlib.Core.Path.{sym, ap, _∙_}
 use Rattle.refusal.specs.Answer.{onGiven}
