@@ -15,7 +15,10 @@ pub mod Changes
 pub mod Delay
 pub mod NetworkData
 pub mod NetworkTables
+pub mod NetworkBridge
 pub mod DiagValues
 pub mod Diag
+pub mod DiagTables
+pub mod DiagBridge
 pub mod Pairing
 pub mod Listing

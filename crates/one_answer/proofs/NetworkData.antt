@@ -34,10 +34,14 @@ check value place = one checkedAnswer checked-tells _
 pub count-tlvs : (value : List ℕ) → One (λ (r : TlvCount). tlvCountAnswer r ≡ tlvCount value)
 count-tlvs value = one tlvCountAnswer tlv-count-tells _
 
--- network_data::NetworkDataTlvIter::item
-pub item : (bytes : List ℕ) → One (λ (r : SubTlv). r ≡ subIn bytes 0 (length bytes))
-item bytes = one-itself _
+-- network_data::NetworkDataTlvIter::new
+pub new : (bytes : List ℕ) → One (λ (r : List ℕ). r ≡ bytes)
+new bytes = one-itself _
 
--- network_data::NetworkDataTlvIter::rest, the bytes that it hands back
-pub rest : (bytes : List ℕ) → One (λ (r : List ℕ). r ≡ restOf bytes)
-rest bytes = one-itself _
+-- network_data::NetworkDataTlvIter::item
+pub item : (self : List ℕ) → One (λ (r : SubTlv). r ≡ subIn self 0 (length self))
+item self = one-itself _
+
+-- network_data::NetworkDataTlvIter::rest
+pub rest : (self : List ℕ) → One (λ (r : List ℕ). r ≡ restOf self)
+rest self = one-itself _

@@ -17,7 +17,7 @@ use Rattle.network_tables.specs.declared.ReadBorderRouter.{ReadBorderRouter}
 use Rattle.network_tables.specs.declared.ReadHasRoute.{ReadHasRoute}
 use Rattle.network_tables.specs.declared.ReadPrefix.{ReadPrefix}
 use Rattle.refusal.specs.Answer.{thenDo}
-use Rattle.one_answer.specs.One.{One}
+use Rattle.one_answer.specs.One.{One, Fills}
 use Rattle.one_answer.proofs.General.{one}
 
 -- network_tables::has_route_at
@@ -32,10 +32,7 @@ border-router-at value i = one borderRouterAnswer border-router-tells _
 pub prefix-at : (value : List ℕ) (i : ℕ) → One (λ (r : ReadPrefix). prefixCopy r ≡ copied (thenDo (decodeNetworkData 0 value) (λ (ps : List Prefix). nth (map entryOf ps) i)))
 prefix-at value i = one prefixCopy prefix-tells _
 
--- network_tables::decode: the answer and the three tables
-pub decode : (value : List ℕ) (prefixes : List PrefixEntry) (routes : List HasRouteEntry) (borders : List BorderRouterEntry)
-    → (r q : Checked) (P P′ : List PrefixEntry) (H H′ : List HasRouteEntry) (B B′ : List BorderRouterEntry)
-    → outcome (checkedAnswer r) P H B ≡ decoded (decodeNetworkData 0 value) prefixes routes borders
-    → outcome (checkedAnswer q) P′ H′ B′ ≡ decoded (decodeNetworkData 0 value) prefixes routes borders
-    → (r ≡ q) × (P ≡ P′) × (H ≡ H′) × (B ≡ B′)
-decode value prefixes routes borders r q P P′ H H′ B B′ e f = outcome-tells r q P P′ H H′ B B′ (e ∙ sym f)
+-- network_tables::decode
+pub decode : (value : List ℕ) (prefixes : List PrefixEntry) (has-route : List HasRouteEntry) (border-routers : List BorderRouterEntry)
+    → Fills (λ (r : Checked) (prefixes-left : List PrefixEntry) (has-route-left : List HasRouteEntry) (border-routers-left : List BorderRouterEntry). outcome (checkedAnswer r) prefixes-left has-route-left border-routers-left ≡ decoded (decodeNetworkData 0 value) prefixes has-route border-routers)
+decode value prefixes has-route border-routers r q p p′ h h′ b b′ e f = outcome-tells r q p p′ h h′ b b′ (e ∙ sym f)
