@@ -1,15 +1,12 @@
--- The queries on a dataset: "A query uses the last entry of its type" (document 01), 1, 2, 3 before the value's own fault at the entry's place.
+-- The typed queries of a dataset: "A query uses the last entry of its type" (document 01), 1, 2, 3 before the value's own fault at the entry's place.
 -- Assumes nothing.
 use Prim.Native.Nat.{ℕ}
 use mathlib.Core.List.{List, [], _∷_}
-use lib.ListN.{length}
 use lib.Dec.{eqb}
 use Rattle.refusal.specs.Answer.{pick, Answer, thenDo, onGiven}
 use Rattle.wire.specs.Be.{ruled}
 use Rattle.tlv.specs.Entries.{Entry}
 use Rattle.tlv.specs.Last.{lastEntry}
-use Rattle.channel_masks.specs.Mask.{items, Masked}
-use Rattle.plain_values.specs.Plain.{nameAt}
 
 -- a type, and the length that its value must have
 pub record Rule : Type 0 where
@@ -41,15 +38,3 @@ lengthIn (r ∷ rs) ty = pick (eqb (r .ty) ty) (r .len) (lengthIn rs ty)
 -- what f reads of the value of a type that has a rule
 unfoldable pub query : {A : Type 0} → (ty : ℕ) → (List ℕ → A) → List ℕ → Answer A
 query ty f s = thenDo (lastEntry ty 0 s) (λ (e : Entry). onGiven f (ruled (lengthIn rules ty) (e .place) (e .value)))
-
--- the entry of the network name (type 3), where its value is one
-unfoldable pub nameEntry : List ℕ → Answer Entry
-nameEntry s = thenDo (lastEntry 3 0 s) (λ (e : Entry). onGiven (λ (v : List ℕ). e) (nameAt (e .place) (e .value)))
-
--- the entry of the channel mask (type 53), where its items are whole
-unfoldable pub maskEntry : List ℕ → Answer Entry
-maskEntry s = thenDo (lastEntry 53 0 s) (λ (e : Entry). onGiven (λ (is : List Masked). e) (items (e .place) (e .value)))
-
--- how many items it has
-unfoldable pub maskCount : List ℕ → Answer ℕ
-maskCount s = thenDo (lastEntry 53 0 s) (λ (e : Entry). onGiven length (items (e .place) (e .value)))

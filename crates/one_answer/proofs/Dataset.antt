@@ -3,7 +3,8 @@
 use mathlib.Core.List.{List}
 use mathlib.Core.Path.{_≡_}
 use Prim.Native.Nat.{ℕ}
-use Rattle.dataset.specs.Queries.{maskCount, maskEntry, nameEntry, query}
+use Rattle.dataset.specs.Queries.{query}
+use Rattle.dataset_parts.specs.Parts.{maskCount, maskEntry, nameEntry}
 use Rattle.channel_masks.proofs.Papers.{mask-tells}
 use Rattle.channel_masks.specs.Mask.{maskAnswer}
 use Rattle.channel_masks.specs.declared.ReadMask.{ReadMask}
@@ -30,27 +31,27 @@ use Rattle.wire.specs.declared.Read32.{Read32}
 use Rattle.one_answer.proofs.General.{one, one-itself}
 use Rattle.one_answer.specs.One.{One}
 
--- dataset::raw
+-- dataset_parts::raw
 pub raw : (s : List ℕ) (ty : ℕ) → One (λ (r : Found). foundAnswer r ≡ lastSpot ty 0 s)
 raw s ty = one foundAnswer found-tells _
 
--- dataset::raw_value
+-- dataset_parts::raw_value
 pub raw-value : (s : List ℕ) (ty : ℕ) → One (λ (r : List ℕ). r ≡ lastValue ty s)
 raw-value s ty = one-itself _
 
--- dataset::pskc
+-- dataset_parts::pskc
 pub pskc : (s : List ℕ) → One (λ (r : Found). foundAnswer r ≡ lastSpot 4 0 s)
 pskc s = one foundAnswer found-tells _
 
--- dataset::pskc_value
+-- dataset_parts::pskc_value
 pub pskc-value : (s : List ℕ) → One (λ (r : List ℕ). r ≡ lastValue 4 s)
 pskc-value s = one-itself _
 
--- dataset::network_name
+-- dataset_parts::network_name
 pub network-name : (s : List ℕ) → One (λ (r : Found). foundAnswer r ≡ onGiven spot (nameEntry s))
 network-name s = one foundAnswer found-tells _
 
--- dataset::network_name_value
+-- dataset_parts::network_name_value
 pub network-name-value : (s : List ℕ) → One (λ (r : List ℕ). r ≡ valueOr (nameEntry s))
 network-name-value s = one-itself _
 
@@ -90,10 +91,10 @@ mesh-local-prefix s = one copy8 copy8-tells _
 pub network-key : (s : List ℕ) → One (λ (r : Array16). copy16 r ≡ copied 16 (query 5 (λ (v : List ℕ). v) s))
 network-key s = one copy16 copy16-tells _
 
--- dataset::channel_mask
+-- dataset_parts::channel_mask
 pub channel-mask : (s : List ℕ) → One (λ (r : ReadMask). maskAnswer r ≡ maskCount s)
 channel-mask s = one maskAnswer mask-tells _
 
--- dataset::channel_mask_value
+-- dataset_parts::channel_mask_value
 pub channel-mask-value : (s : List ℕ) → One (λ (r : List ℕ). r ≡ valueOr (maskEntry s))
 channel-mask-value s = one-itself _

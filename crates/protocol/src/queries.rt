@@ -12,10 +12,10 @@ use crate::typed::put_policy;
 use crate::typed::put_timestamp;
 use crate::typed::put_u16;
 use crate::typed::put_u32;
-use dataset::channel_mask;
-use dataset::channel_mask_value;
-use dataset::network_name;
-use dataset::network_name_value;
+use dataset_parts::channel_mask;
+use dataset_parts::channel_mask_value;
+use dataset_parts::network_name;
+use dataset_parts::network_name_value;
 use texts::Room;
 use timestamps::Timestamp;
 use values::Channel;
@@ -59,7 +59,12 @@ fn byte_queries(request: &Room, v: Values, text: &mut Room, at: usize) -> usize 
         return put_found(text, at, network_name(s), network_name_value(s));
     }
     if asks(request, b"q.pskc b") {
-        return put_found(text, at, dataset::pskc(s), dataset::pskc_value(s));
+        return put_found(
+            text,
+            at,
+            dataset_parts::pskc(s),
+            dataset_parts::pskc_value(s),
+        );
     }
     if asks(request, b"q.mask b") {
         return put_mask(text, at, channel_mask(s), channel_mask_value(s));

@@ -5,12 +5,12 @@ use native.Mathlib.Omega.{arith}
 use native.Mathlib.Nat.{add-sub-cancel-left}
 use Rattle.refusal.specs.Answer.{onGiven}
 use Rattle.tlv.specs.Last.{spot}
-use Rattle.dataset.specs.Queries.{nameEntry}
+use Rattle.dataset_parts.specs.Parts.{nameEntry}
 use Rattle.dataset.proofs.Finds.{found-inside, none-found, found-refused}
-use Rattle.dataset.proofs.Keeps.{name-kept, name-refused}
+use Rattle.dataset_parts.proofs.Keeps.{name-kept, name-refused}
 use borrow.Author.Needs.{needs}
-use Rattle.dataset.proofs.network_name.Statement.{statement}
-use Rattle.dataset.proofs.network_name.Tie as tie
+use Rattle.dataset_parts.proofs.network_name.Statement.{statement}
+use Rattle.dataset_parts.proofs.network_name.Tie as tie
 
 last-entry-requires : tie.Need-last-entry-requires
 last-entry-requires c κs = search needs

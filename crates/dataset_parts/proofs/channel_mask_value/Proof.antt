@@ -1,10 +1,10 @@
 -- `dataset::channel_mask_value` meets its contract: the mask is the last value of its type where its items are whole.
 -- Assumes nothing.
 use mathlib.Core.Path.{_∙_}
-use Rattle.dataset.proofs.Keeps.{mask-value, mask-none}
+use Rattle.dataset_parts.proofs.Keeps.{mask-value, mask-none}
 use borrow.Author.Needs.{needs}
-use Rattle.dataset.proofs.channel_mask_value.Statement.{statement}
-use Rattle.dataset.proofs.channel_mask_value.Tie as tie
+use Rattle.dataset_parts.proofs.channel_mask_value.Statement.{statement}
+use Rattle.dataset_parts.proofs.channel_mask_value.Tie as tie
 
 channel-mask-requires : tie.Need-channel-mask-requires
 channel-mask-requires c κs = search needs

@@ -29,8 +29,8 @@ use Rattle.plain_values.specs.declared.Checked.{Checked}
 use Rattle.plain_values.specs.declared.Checked.the-variants as c
 use Rattle.plain_values.proofs.Checked
 use Rattle.plain_values.proofs.Names.{name-there}
-use Rattle.dataset.specs.Queries.{nameEntry, maskEntry, maskCount}
+use Rattle.dataset_parts.specs.Parts.{nameEntry, maskEntry, maskCount}
 use Rattle.dataset.proofs.Finds.{found}
 
 isGiven : {A : Type 0} → Answer A → Bool
 isGiven (given x) = true

@@ -3,11 +3,11 @@
 use mathlib.Core.Path.{_∙_}
 use native.Mathlib.Omega.{arith}
 use native.Mathlib.Nat.{add-sub-cancel-left}
-use Rattle.dataset.specs.Queries.{maskCount}
+use Rattle.dataset_parts.specs.Parts.{maskCount}
 use Rattle.dataset.proofs.Finds.{found-inside, found, none-found, found-refused}
 use borrow.Author.Needs.{needs}
-use Rattle.dataset.proofs.channel_mask.Statement.{statement}
-use Rattle.dataset.proofs.channel_mask.Tie as tie
+use Rattle.dataset_parts.proofs.channel_mask.Statement.{statement}
+use Rattle.dataset_parts.proofs.channel_mask.Tie as tie
 
 last-entry-requires : tie.Need-last-entry-requires
 last-entry-requires c κs = search needs

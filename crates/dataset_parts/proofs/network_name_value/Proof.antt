@@ -2,10 +2,10 @@
 -- Assumes nothing.
 use native.Mathlib.Omega.{arith}
 use native.Mathlib.Nat.{add-sub-cancel-left}
-use Rattle.dataset.proofs.Keeps.{name-part, name-none}
+use Rattle.dataset_parts.proofs.Keeps.{name-part, name-none}
 use borrow.Author.Needs.{needs}
-use Rattle.dataset.proofs.network_name_value.Statement.{statement}
-use Rattle.dataset.proofs.network_name_value.Tie as tie
+use Rattle.dataset_parts.proofs.network_name_value.Statement.{statement}
+use Rattle.dataset_parts.proofs.network_name_value.Tie as tie
 
 network-name-requires : tie.Need-network-name-requires
 network-name-requires c κs = search needs
