@@ -1,24 +1,18 @@
 // The pairing of a payload: how many rows, then what is said of each.
 use pairing::Answered;
 use pairing::Pairing;
+use requests::least;
 use texts::Room;
 use texts::put_number;
 use texts::put_one;
 use texts::put_refusal;
 use texts::put_text;
-ghost use Prim.Native.Nat.{_≤_};
 
 // What the answers that are lent are filled with: the number of no list.
 const PATTERN: u16 = 0xA5A5;
 
 // More than a child table can have rows.
 const PLACES: usize = 4096;
-
-fn least(a: usize, b: usize) -> usize
-    ensures { λ r. ⌜ r ≤ b ⌝ }
-{
-    if a < b { a } else { b }
-}
 
 // Whether anything from a place on is no longer the pattern.
 fn changed(lent: &[u16], from: usize) -> bool {

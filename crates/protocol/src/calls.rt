@@ -1,19 +1,18 @@
 // The calls in groups by topic: the first that knows a request answers it. A group that does not know it asks the next one.
 //
 // To add a call: where its answer is what it writes into an output whose size is its last word, one `if` in its topic's group of
-// `..._calls`; where its answer is a text of its own, one in a group of `..._texts`. A new group is asked by the last one. Such a function
-// needs no proof file unless it has a loop. A request that no group knows is a bad request. docs/USERS.md has an example of each.
+// `..._calls` here; where its answer is a text of its own, one in a group of `..._texts` of `dataset_texts` or `diag_texts`. A new group is
+// asked by the last one. Such a function needs no proof file unless it has a loop. A request that no group knows is a bad request.
+// docs/USERS.md has an example of each.
 use crate::answers::put_answer;
-use crate::framing::framing_calls;
-use crate::framing::framing_texts;
+use crate::entries::entry_calls;
 use crate::hexes::put_hexframe;
 use crate::lent::lend;
 use crate::listings::put_report;
-use crate::lists::put_list;
-use crate::requests::Values;
-use crate::requests::asks;
-use crate::requests::read;
 use crate::rooms::Lent;
+use requests::Values;
+use requests::asks;
+use requests::read;
 use texts::Room;
 
 // A longer line is no request.
@@ -28,16 +27,17 @@ fn text_calls(request: &Room, v: Values, out: &mut [u8], text: &mut Room, at: us
     if asks(request, b"prog b") {
         return put_report(text, at, s, out);
     }
-    if asks(request, b"ops b") {
-        return put_list(text, at, s);
+    let end = dataset_texts::answer(request, v, text, at);
+    if end != at {
+        return end;
     }
-    framing_texts(request, v, text, at)
+    diag_texts::answer(request, v, text, at)
 }
 
 // Calls that write into the bytes that are lent.
 fn put_write(request: &Room, v: Values, out: &mut [u8], text: &mut Room, at: usize) -> usize {
     let n = lend(out, v.cap);
-    let answer = framing_calls(request, v, &mut out[0..n]);
+    let answer = entry_calls(request, v, &mut out[0..n]);
     put_answer(text, at, answer, &out[0..n])
 }
 

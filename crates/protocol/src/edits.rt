@@ -1,8 +1,8 @@
 // Calls that edit a dataset, take it from hex text or to it, or write a mask item: `set`, `remove`, `hexdata`, `tohex`, `maskitem`.
 use crate::answers::Answer;
 use crate::lists::list_calls;
-use crate::requests::Values;
-use crate::requests::asks;
+use requests::Values;
+use requests::asks;
 use texts::Room;
 
 pub(crate) fn edit_calls(request: &Room, v: Values, lent: &mut [u8]) -> Answer {

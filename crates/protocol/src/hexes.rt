@@ -1,13 +1,13 @@
 // Calls on hex text: `hexbytes`, `hexframe`.
 use crate::answers::Answer;
 use crate::edits::edit_calls;
-use crate::framing::put_frame;
 use crate::lent::lend;
 use crate::lent::put_dirty;
 use crate::lent::put_written;
-use crate::requests::Values;
-use crate::requests::asks;
+use dataset_texts::put_frame;
 use refusal::Written;
+use requests::Values;
+use requests::asks;
 use texts::Room;
 use texts::part_of;
 

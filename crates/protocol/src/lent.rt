@@ -1,6 +1,6 @@
 // Lent outputs: filled with a pattern before a call, and looked at after it.
-use crate::words::least;
 use refusal::Written;
+use requests::least;
 use texts::Room;
 use texts::part_of;
 use texts::put_hex;

@@ -1,22 +1,14 @@
 // The line protocol of the program `probe`: requests on standard input, one answer line each.
 mod answers;
 mod calls;
-mod delays;
-mod diagnostics;
 mod edits;
-mod framing;
+mod entries;
 mod hexes;
 mod lent;
 mod lines;
 mod listings;
 mod lists;
-mod masks;
-mod parts;
-mod queries;
-mod requests;
 mod rooms;
-mod typed;
-mod words;
 
 // Answers each line of the standard input, of which there may be any number, until its end. A line has up to 600,000 characters; a longer
 // one is answered once, as one bad request. Answers are written when there are many of them, and before more input is waited for.

@@ -2,8 +2,8 @@
 use crate::calls::LONGEST_LINE;
 use crate::calls::put_call;
 use crate::rooms::Lent;
-use crate::words::least;
-use crate::words::until;
+use requests::least;
+use requests::until;
 use texts::Room;
 use texts::put_byte;
 use texts::put_text;
@@ -38,7 +38,7 @@ fn put_lines(s: &[u8], arena: &mut Room, out: &mut Lent, text: &mut Room) {
     let mut at = 0;
     let mut start = 0;
     while start < s.len() {
-        let end = until(s, start, b'\n');
+        let end = start + until(&s[start..], b'\n');
         let next = put_line(&s[start..end], arena, out, text, at);
         at = flush_half(text, next);
         start = end + 1;

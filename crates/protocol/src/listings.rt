@@ -2,8 +2,8 @@
 use crate::answers::Answer;
 use crate::lent::lend;
 use crate::lent::put_written;
-use crate::requests::Values;
-use crate::requests::asks;
+use requests::Values;
+use requests::asks;
 use texts::Room;
 
 pub(crate) fn put_report(text: &mut Room, at: usize, input: &[u8], out: &mut [u8]) -> usize {

@@ -1,9 +1,7 @@
-// Calls on entries: `frame`, `one`, `rewrite`, `entry`, `raw`.
-use crate::answers::Answer;
-use crate::hexes::hex_calls;
+// Calls on entries: `frame`, `one`, `raw`.
 use crate::queries::query_texts;
-use crate::requests::Values;
-use crate::requests::asks;
+use requests::Values;
+use requests::asks;
 use texts::Room;
 use texts::put_hex;
 use texts::put_marked;
@@ -40,8 +38,8 @@ fn put_entries(text: &mut Room, at: usize, s: &[u8]) -> usize {
     }
 }
 
-// The answer to `frame` for these bytes.
-pub(crate) fn put_frame(text: &mut Room, at: usize, s: &[u8]) -> usize {
+// How many entries there are, and each.
+pub(crate) fn put_entries_of(text: &mut Room, at: usize, s: &[u8]) -> usize {
     match tlv::count_entries(s, 0) {
         Counted::Entries(n) => {
             let word = put_text(text, at, b"ok");
@@ -88,7 +86,7 @@ fn put_first(text: &mut Room, at: usize, s: &[u8]) -> usize {
 pub(crate) fn framing_texts(request: &Room, v: Values, text: &mut Room, at: usize) -> usize {
     let s = v.bytes(request, 1);
     if asks(request, b"frame b") {
-        return put_frame(text, at, s);
+        return put_entries_of(text, at, s);
     }
     if asks(request, b"one b") {
         return put_first(text, at, s);
@@ -97,14 +95,4 @@ pub(crate) fn framing_texts(request: &Room, v: Values, text: &mut Room, at: usiz
         return put_raw(text, at, v.type_byte(1), v.bytes(request, 2));
     }
     query_texts(request, v, text, at)
-}
-
-pub(crate) fn framing_calls(request: &Room, v: Values, lent: &mut [u8]) -> Answer {
-    if asks(request, b"rewrite bn") {
-        return Answer::Wrote(tlv_writing::rewrite(v.bytes(request, 1), lent));
-    }
-    if asks(request, b"entry tbn") {
-        return Answer::Wrote(tlv_writing::write_entry(v.type_byte(1), v.bytes(request, 2), lent));
-    }
-    hex_calls(request, v, lent)
 }

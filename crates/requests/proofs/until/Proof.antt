@@ -1,15 +1,15 @@
--- `protocol::words::until` answers a place of the slice from the given one on, or its end. Assumes nothing.
+-- `requests::until` answers a place of the slice, or its end. Assumes nothing.
 use Prim.Native.Nat.{_≤_, _-_}
 use lib.ListN.{length}
 use borrow.Author.Needs.{needs}
-use Rattle.protocol.proofs.words.until.Statement.{statement}
-use Rattle.protocol.proofs.words.until.Tie as tie
+use Rattle.requests.proofs.until.Statement.{statement}
+use Rattle.requests.proofs.until.Tie as tie
 
 abbrev Inv-loop : tie.InvT-loop
-Inv-loop s from stop i₀ i = (from ≤ i) × (i ≤ length s)
+Inv-loop s stop i₀ i = i ≤ length s
 
 abbrev μ-loop : tie.MeasureT-loop
-μ-loop s from stop i₀ i = length s - i
+μ-loop s stop i₀ i = length s - i
 
 loop-holds : tie.Need-loop-holds Inv-loop μ-loop
 loop-holds c = search needs

@@ -1,8 +1,8 @@
 // What typed values are made of: `ts.build`, `ts.parts`, `flags.get`, `flags.set`, `flags.has`, `channel.bytes`, `policy.bytes`.
 use crate::delays::delay_texts;
-use crate::requests::Values;
-use crate::requests::asks;
 use crate::typed::put_timestamp;
+use requests::Values;
+use requests::asks;
 use texts::Room;
 use texts::put_bytes_value;
 use texts::put_number;

@@ -1,8 +1,6 @@
 // Typed queries of a dataset, `q.KIND`, and the same of a bare value, `v.KIND`.
 use crate::masks::put_mask;
 use crate::parts::part_texts;
-use crate::requests::Values;
-use crate::requests::asks;
 use crate::typed::put_array_8;
 use crate::typed::put_array_16;
 use crate::typed::put_channel;
@@ -16,6 +14,8 @@ use dataset_parts::channel_mask;
 use dataset_parts::channel_mask_value;
 use dataset_parts::network_name;
 use dataset_parts::network_name_value;
+use requests::Values;
+use requests::asks;
 use texts::Room;
 use timestamps::Timestamp;
 use values::Channel;

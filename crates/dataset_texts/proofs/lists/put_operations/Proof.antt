@@ -1,11 +1,11 @@
--- `protocol::lists::put_operations` is safe and ends, since an operation lies within the list and takes some of it. Assumes nothing.
+-- `dataset_texts::lists::put_operations` is safe and ends, since an operation lies within the list and takes some of it. Assumes nothing.
 use Prim.Native.Nat.{_≤_, _-_}
 use lib.ListN.{length}
 use native.Mathlib.Omega.{arith}
 use borrow.Author.Needs.{needs}
 use Rattle.changes.proofs.Places.{set-within, removal-inside}
-use Rattle.protocol.proofs.lists.put_operations.Statement.{statement}
-use Rattle.protocol.proofs.lists.put_operations.Tie as tie
+use Rattle.dataset_texts.proofs.lists.put_operations.Statement.{statement}
+use Rattle.dataset_texts.proofs.lists.put_operations.Tie as tie
 
 abbrev Inv-loop : tie.InvT-loop
 Inv-loop text₀ at list next₀ place₀ text next place = place ≤ length list

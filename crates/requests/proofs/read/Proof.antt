@@ -1,9 +1,9 @@
--- `protocol::requests::read` is safe and ends, since each turn passes a blank. Assumes nothing.
+-- `requests::read` is safe and ends, since each turn passes a blank. Assumes nothing.
 use Prim.Native.Nat.{_≤_, _-_}
 use lib.ListN.{length}
 use borrow.Author.Needs.{needs}
-use Rattle.protocol.proofs.requests.read.Statement.{statement}
-use Rattle.protocol.proofs.requests.read.Tie as tie
+use Rattle.requests.proofs.read.Statement.{statement}
+use Rattle.requests.proofs.read.Tie as tie
 
 abbrev Inv-loop : tie.InvT-loop
 Inv-loop line arena₀ values₀ cap₀ blank₀ key₀ start₀ k₀ arena values cap blank key start k = blank ≤ length line

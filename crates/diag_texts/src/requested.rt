@@ -1,6 +1,12 @@
 // Calls on diagnostic payloads and their values: `d.TYPE`, `nd`, `diag`, `timeout`, `pair`.
-use crate::requests::Values;
-use crate::requests::asks;
+use crate::bare::put_bare;
+use crate::network::places;
+use crate::network::put_bare_network;
+use crate::pairs::put_pairs;
+use crate::record::put_record;
+use crate::rows::put_seconds;
+use requests::Values;
+use requests::asks;
 use texts::Room;
 
 // No field has it.
@@ -63,32 +69,23 @@ fn later_type(request: &Room) -> u8 {
     NO_TYPE
 }
 
-fn put_diag(request: &Room, v: Values, text: &mut Room, at: usize) -> usize {
-    let payload = v.bytes(request, 1);
-    diag_texts::put_payload(text, at, payload, v.number(2), v.number(3), v.number(4))
-}
-
-fn put_nd(request: &Room, v: Values, text: &mut Room, at: usize) -> usize {
-    let value = v.bytes(request, 1);
-    diag_texts::put_network_data(text, at, value, v.number(2), v.number(3), v.number(4))
-}
-
 pub(crate) fn diagnostic_texts(request: &Room, v: Values, text: &mut Room, at: usize) -> usize {
+    let s = v.bytes(request, 1);
     if asks(request, b"diag bnnn") {
-        return put_diag(request, v, text, at);
+        return put_record(text, at, s, places(v.number(2), v.number(3), v.number(4)));
     }
     if asks(request, b"nd bnnn") {
-        return put_nd(request, v, text, at);
+        return put_bare_network(text, at, s, places(v.number(2), v.number(3), v.number(4)));
     }
     if asks(request, b"timeout t") {
-        return diag_texts::put_timeout(text, at, v.type_byte(1));
+        return put_seconds(text, at, v.type_byte(1));
     }
     if asks(request, b"pair bn") {
-        return diag_texts::put_pairing(text, at, v.bytes(request, 1), v.number(2));
+        return put_pairs(text, at, s, v.number(2));
     }
     let ty = named_type(request);
     if ty == NO_TYPE {
         return at;
     }
-    diag_texts::put_value(text, at, ty, v.bytes(request, 1))
+    put_bare(text, at, ty, s)
 }

@@ -1,11 +1,11 @@
--- `protocol::masks::put_items` is safe and ends, since an item lies within the mask and takes some of it. Assumes nothing.
+-- `dataset_texts::masks::put_items` is safe and ends, since an item lies within the mask and takes some of it. Assumes nothing.
 use Prim.Native.Nat.{_≤_, _-_}
 use lib.ListN.{length}
 use native.Mathlib.Omega.{arith}
 use borrow.Author.Needs.{needs}
 use Rattle.channel_masks.proofs.Items.{turn-inside}
-use Rattle.protocol.proofs.masks.put_items.Statement.{statement}
-use Rattle.protocol.proofs.masks.put_items.Tie as tie
+use Rattle.dataset_texts.proofs.masks.put_items.Statement.{statement}
+use Rattle.dataset_texts.proofs.masks.put_items.Tie as tie
 
 abbrev Inv-loop : tie.InvT-loop
 Inv-loop text₀ at value next₀ place₀ text next place = place ≤ length value

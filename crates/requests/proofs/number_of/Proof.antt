@@ -1,9 +1,9 @@
--- `protocol::requests::number_of` is safe and ends: the number never wraps. Assumes nothing.
+-- `requests::number_of` is safe and ends: the number never wraps. Assumes nothing.
 use Prim.Native.Nat.{_-_}
 use lib.ListN.{length}
 use borrow.Author.Needs.{needs}
-use Rattle.protocol.proofs.requests.number_of.Statement.{statement}
-use Rattle.protocol.proofs.requests.number_of.Tie as tie
+use Rattle.requests.proofs.number_of.Statement.{statement}
+use Rattle.requests.proofs.number_of.Tie as tie
 
 abbrev Inv-loop : tie.InvT-loop
 Inv-loop word none x₀ i₀ x i = Unit {0}

@@ -1,8 +1,8 @@
--- `protocol::requests::put_bytes` is safe and ends. Assumes nothing.
+-- `requests::put_bytes` is safe and ends. Assumes nothing.
 use Prim.Native.Nat.{_-_}
 use borrow.Author.Needs.{needs}
-use Rattle.protocol.proofs.requests.put_bytes.Statement.{statement}
-use Rattle.protocol.proofs.requests.put_bytes.Tie as tie
+use Rattle.requests.proofs.put_bytes.Statement.{statement}
+use Rattle.requests.proofs.put_bytes.Tie as tie
 
 abbrev Inv-loop : tie.InvT-loop
 Inv-loop word arena₀ start n seen₀ end₀ i₀ arena seen end i = Unit {0}

@@ -1,9 +1,9 @@
-// Calls on a pending dataset's delay: `wdelay`, `due`.
-use crate::diagnostics::diagnostic_texts;
-use crate::requests::Values;
-use crate::requests::asks;
+// Calls on a pending dataset's delay, `wdelay`, `due`, and on a change list, `ops`.
+use crate::lists::put_list;
 use delay::DueSecond;
 use delay::WorkingDelay;
+use requests::Values;
+use requests::asks;
 use texts::Room;
 use texts::put_one;
 use texts::put_refusal;
@@ -29,5 +29,8 @@ pub(crate) fn delay_texts(request: &Room, v: Values, text: &mut Room, at: usize)
     if asks(request, b"due bn") {
         return put_due_second(text, at, v.bytes(request, 1), v.number(2));
     }
-    diagnostic_texts(request, v, text, at)
+    if asks(request, b"ops b") {
+        return put_list(text, at, v.bytes(request, 1));
+    }
+    at
 }

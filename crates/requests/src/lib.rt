@@ -1,7 +1,6 @@
-// A request as it was read: the kinds of its words, and the values that they spell.
+// A request of the line protocol as it was read: the kinds of its words, and the values that they spell.
 //
 // The arena has first its name, a blank, a kind for each further word and 0; and from BYTES on the bytes that its words spell, side by side.
-use crate::words::until;
 use texts::ROOM;
 use texts::Room;
 use texts::part_of;
@@ -42,9 +41,30 @@ struct Value {
 }
 
 // The values of the words by their number, the name's being 0, and the last word's number: for a call that is lent an output, its size.
-pub(crate) struct Values {
-    pub(crate) cap: u64,
+pub struct Values {
+    pub cap: u64,
     values: [Value; MOST_VALUES],
+}
+
+// The lesser of two numbers, or the second.
+pub fn least(a: usize, b: usize) -> usize
+    ensures { λ r. ⌜ r ≤ b ⌝ }
+{
+    if a < b { a } else { b }
+}
+
+// The place of the first `stop`, or the end.
+pub fn until(s: &[u8], stop: u8) -> usize
+    ensures { λ r. do ⌜ r ≤ (← ⟦s.len()⟧ .entry) ⌝ }
+{
+    let mut i = 0;
+    while i < s.len() {
+        if s[i] == stop {
+            return i;
+        }
+        i += 1;
+    }
+    i
 }
 
 // The value of a lower-case hex digit, or 16.
@@ -179,7 +199,7 @@ fn value_of(line: &[u8], first: usize, arena: &mut Room, start: usize) -> Value
     ensures { λ r. ⌜ first ≤ r .stop ⌝ }
     ensures { λ r. do ⌜ r .stop ≤ (← ⟦line.len()⟧ .entry) ⌝ }
 {
-    let stop = until(line, first, b' ');
+    let stop = first + until(&line[first..], b' ');
     let word = &line[first..stop];
     let n = number_of(word);
     let version = version_of(word);
@@ -203,7 +223,7 @@ fn put_name(arena: &mut Room, name: &[u8]) -> usize {
 }
 
 // Reads the words of a line into the arena. A line that has too many has no name there either.
-pub(crate) fn read(line: &[u8], arena: &mut Room) -> Values {
+pub fn read(line: &[u8], arena: &mut Room) -> Values {
     let none = Value {
         kind: 0,
         stop: 0,
@@ -213,7 +233,7 @@ pub(crate) fn read(line: &[u8], arena: &mut Room) -> Values {
     };
     let mut values = [none; MOST_VALUES];
     let mut cap = 0;
-    let mut blank = until(line, 0, b' ');
+    let mut blank = until(line, b' ');
     let mut key = put_name(arena, &line[0..blank]);
     let mut start = BYTES;
     let mut k = 1;
@@ -236,7 +256,7 @@ pub(crate) fn read(line: &[u8], arena: &mut Room) -> Values {
 
 impl Values {
     // The bytes that a word spells, in the arena that it was read into.
-    pub(crate) fn bytes<'a>(self, request: &'a Room, k: usize) -> &'a [u8] {
+    pub fn bytes<'a>(self, request: &'a Room, k: usize) -> &'a [u8] {
         if k < MOST_VALUES {
             let v = self.values[k];
             return part_of(request, v.start, v.end);
@@ -244,7 +264,7 @@ impl Values {
         part_of(request, 0, 0)
     }
 
-    pub(crate) fn number(self, k: usize) -> u64 {
+    pub fn number(self, k: usize) -> u64 {
         if k < MOST_VALUES {
             let v = self.values[k];
             return v.number;
@@ -252,11 +272,11 @@ impl Values {
         0
     }
 
-    pub(crate) fn type_byte(self, k: usize) -> u8 {
+    pub fn type_byte(self, k: usize) -> u8 {
         (self.number(k) % 256) as u8
     }
 
-    pub(crate) fn short(self, k: usize) -> u16 {
+    pub fn short(self, k: usize) -> u16 {
         (self.number(k) % 65536) as u16
     }
 }
@@ -279,7 +299,7 @@ fn agrees(c: u8, with: u8, letters: bool) -> bool {
 
 // Whether a request is for the call of that text: its name, a blank and a letter for each further word, b for bytes, n for a number, t for
 // one to 255 (a type, a page), s for one to 65,535, i for 0 or 1, v for a version.
-pub(crate) fn asks(request: &Room, call: &[u8]) -> bool {
+pub fn asks(request: &Room, call: &[u8]) -> bool {
     let n = call.len();
     if n >= ROOM {
         return false;

@@ -1,8 +1,8 @@
--- `protocol::requests::asks` is safe and ends. Assumes nothing.
+-- `requests::asks` is safe and ends. Assumes nothing.
 use Prim.Native.Nat.{_-_}
 use borrow.Author.Needs.{needs}
-use Rattle.protocol.proofs.requests.asks.Statement.{statement}
-use Rattle.protocol.proofs.requests.asks.Tie as tie
+use Rattle.requests.proofs.asks.Statement.{statement}
+use Rattle.requests.proofs.asks.Tie as tie
 
 abbrev Inv-loop : tie.InvT-loop
 Inv-loop request call n letters₀ i₀ letters i = Unit {0}
