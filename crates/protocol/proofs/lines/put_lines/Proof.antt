@@ -14,8 +14,20 @@ abbrev μ-loop : tie.MeasureT-loop
 loop-holds : tie.Need-loop-holds Inv-loop μ-loop
 loop-holds c = search needs
 
+sub-until : tie.Need-sub-until Inv-loop μ-loop
+sub-until c = search needs
+
+part-until-start : tie.Need-part-until-start Inv-loop μ-loop
+part-until-start c = search needs
+
+part-until-end : tie.Need-part-until-end Inv-loop μ-loop
+part-until-end c = search needs
+
 until-requires : tie.Need-until-requires Inv-loop μ-loop
 until-requires c κs = search needs
+
+add-end : tie.Need-add-end Inv-loop μ-loop
+add-end c = search needs
 
 sub-put-line : tie.Need-sub-put-line Inv-loop μ-loop
 sub-put-line c = search needs
@@ -54,7 +66,11 @@ put-lines-spec =
     Inv-loop
     μ-loop
     loop-holds
+    sub-until
+    part-until-start
+    part-until-end
     until-requires
+    add-end
     sub-put-line
     part-put-line-start
     part-put-line-end
