@@ -1,5 +1,5 @@
 -- What a caller of `decode` learns from a record: the entries that were checked, that the record is theirs, and that a part in it is the last value
--- of its type. (For the lists of type 30: `follows` and `none-left`, proofs/Lists.antt.)
+-- of its type. (For the lists of type 30: `follows` and `none-left`, diag_entries/proofs/Lists.antt.)
 -- Assumes nothing.
 use mathlib.Core.Path.{_≡_, refl, sym, ap, _∙_}
 use mathlib.Core.List.{List}
@@ -11,15 +11,17 @@ use Rattle.refusal.specs.Every.{Every}
 use Rattle.tlv.specs.Entries.{Entry, framing}
 use Rattle.tlv.proofs.Walks.{Lies}
 use Rattle.diag_values.specs.Rows.{part}
-use Rattle.diag.specs.Parts.{last, Said, said, lastSays, lastPart}
-use Rattle.diag.specs.Checked.{checked}
+use Rattle.diag_entries.specs.Parts.{last, Said, said, lastSays, lastPart}
+use Rattle.diag_entries.specs.Checked.{checked}
+use Rattle.diag_entries.specs.Answers.{saidAt}
 use Rattle.diag.specs.Diag.{raw, diag, decode}
-use Rattle.diag.specs.Answers.{optPart, saidAt, diagOf}
+use Rattle.diag.specs.Answers.{optPart, diagOf}
 use Rattle.diag.specs.declared.OptPart.{OptPart}
 use Rattle.diag.specs.declared.OptPart.the-variants as p
 use Rattle.diag.specs.declared.NetDiagData.{NetDiagData}
-use Rattle.diag.proofs.Checks.{Decodes, Fine, fine-checked}
-use Rattle.diag.proofs.Whole.{Of, last-lies}
+use Rattle.diag_entries.proofs.Checks.{Decodes, Fine, fine-checked}
+use Rattle.diag_entries.proofs.Sound.{Of}
+use Rattle.diag.proofs.Whole.{last-lies}
 
 module _ (s : List ℕ) (r : NetDiagData) where
   given-by : (es : List Entry) (a : Answer (List Entry)) → Fine es a → given (diagOf s r) ≡ onGiven diag a

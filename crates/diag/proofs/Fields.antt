@@ -40,7 +40,7 @@ use Rattle.diag_values.specs.declared.ReadLeaderData.the-variants as l
 use Rattle.diag_values.proofs.ReadMacCounters
 use Rattle.diag_values.specs.declared.ReadMacCounters.{ReadMacCounters}
 use Rattle.diag_values.specs.declared.ReadMacCounters.the-variants as k
-use Rattle.diag.specs.Parts.{Said}
+use Rattle.diag_entries.specs.Parts.{Said}
 use Rattle.diag.specs.Diag.{NetworkDataValue}
 use Rattle.diag.specs.Loops.{InPayload, orNone, readAt, networkAt}
 

@@ -13,10 +13,10 @@ use Rattle.laws.proofs.Tests.{by-test}
 use Rattle.refusal.specs.Answer.{absent}
 use Rattle.tlv.specs.Entries.{Entry, entry, framing}
 use Rattle.tlv.proofs.Lasts.{lastSpotOf, last-hit, last-miss, last-none}
-use Rattle.diag.specs.Parts.{allOf}
+use Rattle.diag_entries.specs.Parts.{allOf}
 use Rattle.diag.specs.Loops.{spotIn, Located}
 use Rattle.diag.specs.declared.Places.{Places}
-use Rattle.diag.proofs.Lasts.{all-none, all-more, all-same, last-spots}
+use Rattle.diag_entries.proofs.Lasts.{all-none, all-more, all-same, last-spots}
 
 -- l is still to be passed, and begins at the place at
 pub record Finding (c p a n s : List ℕ) (at : ℕ) (l : List Entry) : Type 0 where

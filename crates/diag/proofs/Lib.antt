@@ -1,9 +1,7 @@
-pub mod Lasts
 pub mod Finds
-pub mod Checks
 pub mod Fields
 pub mod Whole
 pub mod Callers
-pub mod Lists
+pub mod ListCount
 pub mod Unknown
 pub mod Papers

@@ -1,5 +1,4 @@
--- The meanings of the code's answers tell them apart: the contract of `decode` leaves one record, positions of parts included, and one refusal; that of
--- `child_list` one list.
+-- The meanings of the code's answers tell them apart: the contract of `decode` leaves one record, positions of parts included, and one refusal.
 -- Assumes nothing.
 use mathlib.Core.Path.{_≡_, refl, ap}
 use mathlib.Core.List.{List}
@@ -13,10 +12,10 @@ use Rattle.diag_values.specs.declared.OptU8.{OptU8}
 use Rattle.diag_values.specs.declared.OptU8.the-variants as o8
 use Rattle.diag_values.specs.declared.OptU16.{OptU16}
 use Rattle.diag_values.specs.declared.OptU16.the-variants as o16
-use Rattle.diag_values.specs.declared.ReadAddressList.the-variants as a
-use Rattle.diag.specs.Parts.{Said}
-use Rattle.diag.specs.Diag.{NetworkDataValue, Diag, AddressList}
-use Rattle.diag.specs.Answers.{optAnswer32, optMode, optConnectivity, optLeaderData, optMacCounters, optPart, saidAt, optNetworkData, diagOf, decodedAnswer, childListAnswer}
+use Rattle.diag_entries.specs.Parts.{Said}
+use Rattle.diag_entries.specs.Answers.{saidAt}
+use Rattle.diag.specs.Diag.{NetworkDataValue, Diag}
+use Rattle.diag.specs.Answers.{optAnswer32, optMode, optConnectivity, optLeaderData, optMacCounters, optPart, optNetworkData, diagOf, decodedAnswer}
 use Rattle.diag.specs.declared.OptU32.{OptU32}
 use Rattle.diag.specs.declared.OptU32.the-variants as u
 use Rattle.diag.specs.declared.OptMode.{OptMode}
@@ -114,11 +113,3 @@ pub decoded-tells : (s : List ℕ) → Tells (decodedAnswer s)
 decoded-tells s =
     tells (decodedAnswer s) (codeOf (λ (v : Diag). d.Data (dataOf v)) (d.Refused (refusalOf 0 0 0)) d.Refused)
     (elim [ d.Data x ↦ ap d.Data (back-data s x) | d.Refused r ↦ ap d.Refused (refusal-back r) ])
-
-pub child-list-tells : (s : List ℕ) → Tells (childListAnswer s)
-child-list-tells s =
-    tells (childListAnswer s)
-    (codeOf
-    (λ (v : AddressList). a.Value record { rloc16 = v .rloc16; «child_id» = v .childId; start = v .addresses .start; len = v .addresses .len })
-    a.Absent a.Refused)
-    (elim [ a.Value x ↦ refl | a.Absent ↦ refl | a.Refused r ↦ ap a.Refused (refusal-back r) ])

@@ -17,10 +17,11 @@ use Rattle.tlv.specs.Last.{lastOf}
 use Rattle.tlv.proofs.Walks.{Lies, framing-lies}
 use Rattle.diag_values.specs.Rule.{keepsRule}
 use Rattle.diag_values.proofs.Kept.{value-kept, other-kept}
-use Rattle.diag.specs.Parts.{allOf}
-use Rattle.diag.specs.Checked.{entryValue, decoding}
-use Rattle.diag.specs.Diag.{diag, addressLists}
-use Rattle.diag.proofs.Checks.{entry-other}
+use Rattle.diag_entries.specs.Parts.{allOf}
+use Rattle.diag_entries.specs.Checked.{entryValue, decoding}
+use Rattle.diag_entries.specs.Lists.{addressLists}
+use Rattle.diag_entries.proofs.Checks.{entry-other}
+use Rattle.diag.specs.Diag.{diag}
 
 -- the types of document 01: 0 to 9, 14 to 18, 23 and 30
 unfoldable pub known : (ty : ℕ) → Bool

@@ -1,6 +1,6 @@
 -- What is collected from a payload all of whose entries decode is what it says.
 -- Assumes nothing.
-use mathlib.Core.Path.{_≡_, refl, sym, ap, _∙_, subst}
+use mathlib.Core.Path.{_≡_, refl, sym, ap, _∙_}
 use mathlib.Core.List.{List, [], _∷_}
 use Prim.Native.Nat.{ℕ}
 use native.Mathlib.Omega.{arith}
@@ -20,20 +20,18 @@ use Rattle.diag_values.specs.Values.{modeValue, connectivityOf, leaderOf, count
 use Rattle.diag_values.specs.Routes.{routeOf}
 use Rattle.diag_values.specs.Rows.{childRows, addresses}
 use Rattle.diag_values.specs.Answers.{optAnswer8, optAnswer16}
-use Rattle.diag.specs.Parts.{last, allOf, said}
-use Rattle.diag.specs.Checked.{entryValue}
-use Rattle.diag.specs.Diag.{networkDataOf, raw, byteOf, diag, addressLists}
-use Rattle.diag.specs.Answers.{saidAt, optAnswer32, optMode, optConnectivity, optLeaderData, optMacCounters, optPart, optNetworkData, diagOf}
+use Rattle.diag_entries.specs.Parts.{last, allOf, said}
+use Rattle.diag_entries.specs.Checked.{entryValue}
+use Rattle.diag_entries.specs.Lists.{addressLists}
+use Rattle.diag_entries.specs.Answers.{saidAt}
+use Rattle.diag.specs.Diag.{networkDataOf, raw, byteOf, diag}
+use Rattle.diag.specs.Answers.{optAnswer32, optMode, optConnectivity, optLeaderData, optMacCounters, optPart, optNetworkData, diagOf}
 use Rattle.diag.specs.Loops.{lastIn, InPayload, orNone, readAt, networkAt, partOf, collected}
 use Rattle.diag.specs.declared.NetDiagData.{NetDiagData}
-use Rattle.diag.proofs.Checks.{Decodes, entry-network, entry-other}
+use Rattle.diag_entries.proofs.Checks.{Decodes, entry-network, entry-other}
+use Rattle.diag_entries.proofs.Sound.{Of, Sound, all-sound}
 
 -- ---- what holds of each entry of a type holds of the last
-abbrev pub Of : (Entry → Type 0) → Answer Entry → Type 0
-Of P (given e) = P e
-Of P absent = Unit {0}
-Of P (refused n p i) = ⊥
-
 last-by : (ty : ℕ) (P : Entry → Type 0) (best : Answer Entry) (es : List Entry) → Of P best → Every (λ e. e .ty ≡ ty → P e) es → Of P (lastOf ty best es)
 unfolding lastOf
 last-by ty P best [] b h = b
@@ -56,15 +54,6 @@ last-lies s ty = last-by ty (Lies s) absent (framing s .entries) tt (lies-by s t
 
 pub last-inside : (s : List ℕ) (ty : ℕ) (x : Answer Spot) → x ≡ lastIn ty s → InPayload s x
 last-inside s ty x e = rw e (in-by s (last ty (framing s .entries)) (last-lies s ty))
-
--- an entry of a type that lies in s and decodes
-abbrev pub Sound : List ℕ → ℕ → Entry → Type 0
-Sound s ty e = Lies s e × (entryValue ty (e .place) (e .value) ≡ given (e .value))
-
-pub all-sound : (s : List ℕ) (ty : ℕ) (es : List Entry) → Every (Lies s) es → Every Decodes es → Every (λ e. e .ty ≡ ty → Sound s ty e) es
-all-sound s ty [] l d = tt
-all-sound s ty (e ∷ es) l d =
-    (λ t. (l .0, subst (λ (x : ℕ). entryValue x (e .place) (e .value) ≡ given (e .value)) t (d .0)), all-sound s ty es (l .1) (d .1))
 
 -- ---- a value that is read, one that stays, and Network Data
 module _ (s : List ℕ) where

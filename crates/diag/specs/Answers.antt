@@ -2,7 +2,6 @@
 -- Assumes nothing.
 use Prim.Native.Nat.{ℕ}
 use mathlib.Core.List.{List}
-use lib.ListN.{take, drop}
 use Rattle.refusal.specs.Answer.{Answer, given, absent, onGiven}
 use Rattle.refusal.specs.Number.{refusalAnswer}
 use Rattle.network_data.specs.Decode.{contents}
@@ -13,10 +12,9 @@ use Rattle.diag_values.specs.Answers.{optAnswer8, optAnswer16, connectivityPape
 use Rattle.diag_values.specs.declared.ModeData.{ModeData}
 use Rattle.diag_values.specs.declared.LeaderData.{LeaderData}
 use Rattle.diag_values.specs.declared.MacCounters.{MacCounters}
-use Rattle.diag_values.specs.declared.ReadAddressList.{ReadAddressList}
-use Rattle.diag_values.specs.declared.ReadAddressList.the-variants as a
-use Rattle.diag.specs.Parts.{Said}
-use Rattle.diag.specs.Diag.{NetworkDataValue, raw, Diag, AddressList}
+use Rattle.diag_entries.specs.Parts.{Said}
+use Rattle.diag_entries.specs.Answers.{bytesAt, saidAt}
+use Rattle.diag.specs.Diag.{NetworkDataValue, raw, Diag}
 use Rattle.diag.specs.declared.OptU32.{OptU32}
 use Rattle.diag.specs.declared.OptU32.the-variants as u
 use Rattle.diag.specs.declared.OptMode.{OptMode}
@@ -60,13 +58,6 @@ abbrev pub optPart : OptPart → Answer Part
 optPart (p.Some a n) = given (part a n)
 optPart p.None = absent
 
--- the bytes of a part of s, and what f says of them
-abbrev pub bytesAt : List ℕ → (start len : ℕ) → List ℕ
-bytesAt s a n = take n (drop a s)
-
-abbrev pub saidAt : {A : Type 0} → (List ℕ → A) → List ℕ → Part → Said A
-saidAt f s q = record { start = q .start; len = q .len; says = f (bytesAt s (q .start) (q .len)) }
-
 abbrev pub optNetworkData : List ℕ → OptNetworkData → Answer (Said NetworkDataValue)
 optNetworkData s (n.Some x) = given record {
   start = x .start;
@@ -100,9 +91,3 @@ diagOf s r = record {
 abbrev pub decodedAnswer : List ℕ → Decoded → Answer Diag
 decodedAnswer s (d.Data r) = given (diagOf s r)
 decodedAnswer s (d.Refused r) = refusalAnswer r
-
--- an address list whose addresses are a part of s
-abbrev pub childListAnswer : List ℕ → ReadAddressList → Answer AddressList
-childListAnswer s (a.Value x) = given record { rloc16 = x .rloc16; childId = x .«child_id»; addresses = saidAt addresses s (part (x .start) (x .len)) }
-childListAnswer s a.Absent = absent
-childListAnswer s (a.Refused r) = refusalAnswer r

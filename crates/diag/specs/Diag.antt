@@ -1,24 +1,23 @@
 -- THE definition of what a diagnostic payload says (document 01, "Diagnostic values").
 -- Assumes nothing.
-use Prim.Native.Nat.{ℕ, _+_}
-use mathlib.Core.List.{List, map}
-use lib.ListN.{length, drop}
-use Rattle.refusal.specs.Answer.{Answer, thenDo, onGiven}
+use Prim.Native.Nat.{ℕ}
+use mathlib.Core.List.{List}
+use lib.ListN.{length}
+use Rattle.refusal.specs.Answer.{Answer, onGiven}
 use Rattle.wire.specs.Be.{be}
 use Rattle.tlv.specs.Entries.{Entry}
 use Rattle.network_data.specs.Decode.{Prefix, contents, countsOf}
 use Rattle.network_data.specs.declared.Counts.{Counts}
-use Rattle.diag_values.specs.Values.{byteAt, modeValue, ConnectivityValue, connectivityOf, leaderOf, countersOf, addressListOf}
+use Rattle.diag_values.specs.Values.{byteAt, modeValue, ConnectivityValue, connectivityOf, leaderOf, countersOf}
 use Rattle.diag_values.specs.Routes.{Route, routeOf}
-use Rattle.refusal.specs.Numbered.{nth}
 use Rattle.diag_values.specs.Rows.{childRows, addresses}
 use Rattle.diag_values.specs.declared.ModeData.{ModeData}
 use Rattle.diag_values.specs.declared.LeaderData.{LeaderData}
 use Rattle.diag_values.specs.declared.MacCounters.{MacCounters}
 use Rattle.diag_values.specs.declared.ChildTableEntry.{ChildTableEntry}
-use Rattle.diag_values.specs.declared.ChildIpv6AddrInfo.{ChildIpv6AddrInfo}
-use Rattle.diag.specs.Parts.{allOf, Said, lastSays, lastPart}
-use Rattle.diag.specs.Checked.{checked}
+use Rattle.diag_entries.specs.Parts.{Said, lastSays, lastPart}
+use Rattle.diag_entries.specs.Checked.{checked}
+use Rattle.diag_entries.specs.Lists.{addressLists}
 
 -- Network Data: its prefixes with their rows, and how many records of each kind that is
 pub record NetworkDataValue : Type 0 where
@@ -54,27 +53,6 @@ pub record Diag : Type 0 where
   pub eui64 : Answer (Said (List ℕ))
   pub childLists : ℕ
 
--- "30: RLOC16, then the same" (whole addresses); "child ID is RLOC16 modulo 512"
-pub record AddressList : Type 0 where
-  pub rloc16 : ℕ
-  pub childId : ℕ
-  pub addresses : Said (List (List ℕ))
-
--- of an entry, by what its value says: there the addresses' place counts from the value's first byte, here from the payload's
-abbrev pub listIn : Entry → ChildIpv6AddrInfo → AddressList
-listIn e x = record {
-  rloc16 = x .rloc16;
-  childId = x .«child_id»;
-  addresses = record { start = e .start + x .start; len = x .len; says = addresses (drop (x .start) (e .value)) };
-}
-
-abbrev pub addressList : Entry → AddressList
-addressList e = listIn e (addressListOf (e .value))
-
--- "type 30 gathers all, in order"
-unfoldable pub addressLists : List Entry → List AddressList
-addressLists es = map addressList (allOf 30 es)
-
 -- "Last of a repeated type counts": of each type what its last value says; of type 30 how many lists there are
 unfoldable pub diag : List Entry → Diag
 diag es = record {
@@ -99,7 +77,3 @@ diag es = record {
 
 unfoldable pub decode : List ℕ → Answer Diag
 decode s = onGiven diag (checked s)
-
--- address list k of a payload, from 0
-unfoldable pub childList : (k : ℕ) → List ℕ → Answer AddressList
-childList k s = thenDo (checked s) (λ (es : List Entry). nth (addressLists es) k)

@@ -1,5 +1,3 @@
-pub mod Parts
-pub mod Checked
 pub mod Diag
 pub mod Answers
 pub mod Loops

@@ -7,16 +7,16 @@ use lib.ListN.{length, getD}
 use lib.Dec.{eqb}
 use Rattle.refusal.specs.Answer.{pick, Answer, given, absent, refused, thenDo, onGiven}
 use Rattle.wire.specs.Be.{be}
-use Rattle.tlv.specs.Entries.{entry, framing}
+use Rattle.tlv.specs.Entries.{framing}
 use Rattle.tlv.specs.Last.{Spot, spotAt, spot}
 use Rattle.network_data.specs.Decode.{Prefix, contents, countsOf, decodeNetworkData}
 use Rattle.diag_values.specs.Values.{modeValue, connectivityOf, leaderOf, countersOf}
 use Rattle.diag_values.specs.Routes.{routeOf}
 use Rattle.diag_values.specs.Rows.{Part, part, childRows, addresses}
 use Rattle.diag_values.specs.Rule.{valueOf}
-use Rattle.diag.specs.Parts.{last, allOf, Said}
-use Rattle.diag.specs.Diag.{NetworkDataValue, raw, byteOf, Diag, AddressList, addressList}
-use Rattle.diag.specs.Answers.{bytesAt, saidAt}
+use Rattle.diag_entries.specs.Parts.{last, allOf, Said}
+use Rattle.diag_entries.specs.Answers.{bytesAt, saidAt}
+use Rattle.diag.specs.Diag.{NetworkDataValue, raw, byteOf, Diag}
 use Rattle.diag.specs.declared.Places.{Places}
 
 -- where the last entry of a type lies, by the table's four columns
@@ -89,7 +89,3 @@ collected s = record {
   eui64 = onGiven (saidAt raw s) (onGiven partOf (lastIn 23 s));
   childLists = length (allOf 30 (framing s .entries));
 }
-
--- the address list of type 30 whose value is a part of s
-unfoldable pub listAt : List ℕ → (place start len : ℕ) → Answer AddressList
-listAt s p a n = onGiven (λ (v : List ℕ). addressList (entry p 30 a v)) (valueOf 30 p (bytesAt s a n))

@@ -11,11 +11,11 @@ use Rattle.tlv.specs.Last.{Spot}
 use Rattle.network_data.specs.Decode.{Prefix, contents, countsOf, decodeNetworkData}
 use Rattle.network_data.proofs.Counted.{is-contents}
 use Rattle.network_data.proofs.Anywhere.{given-anywhere}
-use Rattle.diag.specs.Parts.{Said}
-use Rattle.diag.specs.Checked.{checked}
+use Rattle.diag_entries.specs.Parts.{Said}
+use Rattle.diag_entries.specs.Checked.{checked}
 use Rattle.diag.specs.Diag.{NetworkDataValue, Diag, diag, decode}
 use Rattle.diag.specs.Loops.{lastIn, InPayload, orNone, networkAt, collected}
-use Rattle.diag.proofs.Checks.{checked-given}
+use Rattle.diag_entries.proofs.Checks.{checked-given}
 use Rattle.diag.proofs.Whole.{last-inside, collected-is}
 
 -- what is said of Network Data holds of a part of s

@@ -12,7 +12,7 @@ use Rattle.network_data.specs.declared.Counts.{Counts}
 use Rattle.network_data.specs.declared.PrefixEntry.{PrefixEntry}
 use Rattle.network_data.specs.declared.HasRouteEntry.{HasRouteEntry}
 use Rattle.network_data.specs.declared.BorderRouterEntry.{BorderRouterEntry}
-use Rattle.diag.specs.Parts.{Said}
+use Rattle.diag_entries.specs.Parts.{Said}
 use Rattle.diag.specs.Diag.{NetworkDataValue, Diag, decode}
 
 -- the prefixes of a record's Network Data, which is the last of the payload; none where it has no Network Data

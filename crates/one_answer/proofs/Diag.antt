@@ -3,36 +3,13 @@
 use mathlib.Core.List.{List}
 use mathlib.Core.Path.{_≡_}
 use Prim.Native.Nat.{ℕ}
-use lib.ListN.{length}
-use Rattle.diag.proofs.Papers.{child-list-tells, decoded-tells}
-use Rattle.diag.specs.Answers.{childListAnswer, decodedAnswer}
-use Rattle.diag.specs.Checked.{checked}
-use Rattle.diag.specs.Diag.{childList, decode}
-use Rattle.diag.specs.Parts.{allOf, entriesFrom}
+use Rattle.diag.proofs.Papers.{decoded-tells}
+use Rattle.diag.specs.Answers.{decodedAnswer}
+use Rattle.diag.specs.Diag.{decode}
 use Rattle.diag.specs.declared.Decoded.{Decoded}
-use Rattle.refusal.specs.Numbered.{nth}
-use Rattle.diag_values.specs.declared.ReadAddressList.{ReadAddressList}
-use Rattle.refusal.specs.Answer.{onGiven}
-use Rattle.tlv.proofs.Papers.{counted-tells, found-tells}
-use Rattle.tlv.specs.Answers.{countedAnswer, foundAnswer}
-use Rattle.tlv.specs.Last.{spot}
-use Rattle.tlv.specs.declared.Counted.{Counted}
-use Rattle.tlv.specs.declared.Found.{Found}
 use Rattle.one_answer.specs.One.{One}
 use Rattle.one_answer.proofs.General.{one}
-
--- diag::check_values
-pub check-values : (payload : List ℕ) → One (λ (r : Counted). countedAnswer r ≡ onGiven length (checked payload))
-check-values payload = one countedAnswer counted-tells _
 
 -- diag::NetDiagData::decode
 pub net-diag-data-decode : (payload : List ℕ) → One (λ (r : Decoded). decodedAnswer payload r ≡ decode payload)
 net-diag-data-decode payload = one (decodedAnswer payload) (decoded-tells payload) _
-
--- diag::next_child_list
-pub next-child-list : (payload : List ℕ) (place : ℕ) → One (λ (r : Found). foundAnswer r ≡ onGiven spot (nth (allOf 30 (entriesFrom payload place)) 0))
-next-child-list payload place = one foundAnswer found-tells _
-
--- diag::child_list
-pub child-list : (payload : List ℕ) (k : ℕ) → One (λ (r : ReadAddressList). childListAnswer payload r ≡ childList k payload)
-child-list payload k = one (childListAnswer payload) (child-list-tells payload) _

@@ -15,10 +15,10 @@ use Rattle.tlv.specs.Entries.{Entry, Stop, clean, cutAt, framing}
 use Rattle.tlv.specs.Limits.{limited, framed}
 use Rattle.tlv.proofs.Tally.{only}
 use Rattle.refusal.specs.Numbered.{nth}
-use Rattle.diag.specs.Parts.{allOf}
-use Rattle.diag.specs.Checked.{checked}
-use Rattle.diag.specs.Diag.{AddressList, addressList, addressLists}
-use Rattle.diag.proofs.Checks.{checked-given}
+use Rattle.diag_entries.specs.Parts.{allOf}
+use Rattle.diag_entries.specs.Checked.{checked}
+use Rattle.diag_entries.specs.Lists.{AddressList, addressList, addressLists}
+use Rattle.diag_entries.proofs.Checks.{checked-given}
 use Rattle.pairing.specs.Pairing.{codeNone, codeUnclear, pairing, codeOf, meant}
 use Rattle.pairing.specs.Payload.{rowIds, listIds, pairings, paired, codes, rowPairing}
 use Rattle.pairing.specs.declared.Pairing.{Pairing}

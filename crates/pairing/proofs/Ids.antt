@@ -22,7 +22,7 @@ use Rattle.diag_values.specs.Rows.{childAt, childRows}
 use Rattle.diag_values.specs.declared.ChildTableEntry.{ChildTableEntry}
 use Rattle.diag_values.specs.declared.ChildIpv6AddrInfo.{ChildIpv6AddrInfo}
 use Rattle.diag_values.proofs.Kept.{value-cases}
-use Rattle.diag.specs.Parts.{allOf}
+use Rattle.diag_entries.specs.Parts.{allOf}
 use Rattle.pairing.specs.Loops.{orZero, rowIdAt, rowsOf, listIdOf, listsOf, codeBy, codesBy}
 use Rattle.pairing.proofs.Rowed.{listed-length, listed-at, drop-map, nth-in, nth-out}
 

@@ -13,9 +13,9 @@ use Rattle.tlv.specs.Last.{lastOf, valueOr}
 use Rattle.diag_values.specs.Values.{addressListOf}
 use Rattle.refusal.specs.Numbered.{nth}
 use Rattle.diag_values.specs.Rows.{listed, childRows}
-use Rattle.diag.specs.Parts.{last, allOf}
-use Rattle.diag.specs.Checked.{checked}
-use Rattle.diag.specs.Diag.{addressLists}
+use Rattle.diag_entries.specs.Parts.{last, allOf}
+use Rattle.diag_entries.specs.Checked.{checked}
+use Rattle.diag_entries.specs.Lists.{addressLists}
 use Rattle.pairing.specs.Pairing.{occurs, pairing}
 use Rattle.pairing.specs.Payload.{rowIds, listIds, pairings, paired, codes}
 use Rattle.pairing.specs.declared.Pairing.the-variants as p

@@ -21,10 +21,10 @@ use Rattle.diag_values.specs.Values.{addressListOf}
 use Rattle.refusal.specs.Numbered.{nth}
 use Rattle.diag_values.specs.Rows.{childAt, childRows}
 use Rattle.diag_values.specs.declared.ChildTableEntry.{ChildTableEntry}
-use Rattle.diag.specs.Parts.{last, allOf}
-use Rattle.diag.specs.Checked.{decoding, checked}
-use Rattle.diag.specs.Diag.{addressLists}
-use Rattle.diag.proofs.Checks.{Decodes, entry-other, checked-given, checked-refused}
+use Rattle.diag_entries.specs.Parts.{last, allOf}
+use Rattle.diag_entries.specs.Checked.{decoding, checked}
+use Rattle.diag_entries.specs.Lists.{addressLists}
+use Rattle.diag_entries.proofs.Checks.{Decodes, entry-other, checked-given, checked-refused}
 use Rattle.pairing.specs.Pairing.{pairing, codeOf}
 use Rattle.pairing.specs.Payload.{rowIds, listIds, pairings, paired, codes, rowPairing}
 use Rattle.pairing.specs.Loops.{orZero, rowIdAt, rowsOf, listIdOf, listsOf, Counts, Places, judged, codesBy}

@@ -13,7 +13,7 @@ use Rattle.refusal.specs.Numbered.{nth}
 use Rattle.diag_values.specs.Rows.{listed, childRows}
 use Rattle.diag_values.specs.declared.ChildTableEntry.{ChildTableEntry}
 use Rattle.diag_values.specs.declared.ChildIpv6AddrInfo.{ChildIpv6AddrInfo}
-use Rattle.diag.specs.Parts.{allOf}
+use Rattle.diag_entries.specs.Parts.{allOf}
 use Rattle.pairing.specs.Pairing.{occurs, codeOf}
 use Rattle.pairing.specs.declared.Pairing.{Pairing}
 use Rattle.pairing.specs.declared.Pairing.the-variants as p

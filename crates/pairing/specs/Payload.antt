@@ -8,9 +8,9 @@ use Rattle.tlv.specs.Last.{valueOr}
 use Rattle.refusal.specs.Numbered.{nth}
 use Rattle.diag_values.specs.Rows.{childRows}
 use Rattle.diag_values.specs.declared.ChildTableEntry.{ChildTableEntry}
-use Rattle.diag.specs.Parts.{last}
-use Rattle.diag.specs.Checked.{checked}
-use Rattle.diag.specs.Diag.{AddressList, addressLists}
+use Rattle.diag_entries.specs.Parts.{last}
+use Rattle.diag_entries.specs.Checked.{checked}
+use Rattle.diag_entries.specs.Lists.{AddressList, addressLists}
 use Rattle.pairing.specs.Pairing.{pairing, codeOf}
 use Rattle.pairing.specs.declared.Pairing.{Pairing}
 

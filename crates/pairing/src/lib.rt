@@ -177,7 +177,7 @@ fn write_codes(table: &[u8], rows: [u16; 512], lists: Lists, out: &mut [u16])
 pub fn pair(payload: &[u8], out: &mut [u16]) -> Answered
     ensures { λ r. ⌜ output (answeredAnswer r) (now (out .exit)) ≡ emit (codes (now (payload .entry))) (now (out .entry)) ⌝ }
 {
-    match diag::check_values(payload) {
+    match diag_entries::check_values(payload) {
         Counted::Refused(r) => {
             return Answered::Refused(r);
         }
@@ -200,7 +200,7 @@ pub fn pair(payload: &[u8], out: &mut [u16]) -> Answered
 pub fn pair_row(payload: &[u8], k: usize) -> ReadPairing
     ensures { λ r. ⌜ pairingAnswer r ≡ rowPairing k (now (payload .entry)) ⌝ }
 {
-    match diag::check_values(payload) {
+    match diag_entries::check_values(payload) {
         Counted::Refused(r) => {
             return ReadPairing::Refused(r);
         }

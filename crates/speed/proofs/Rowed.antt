@@ -14,9 +14,10 @@ use Rattle.diag_values.specs.Rule.{valueOf}
 use Rattle.diag_values.specs.Answers.{judged}
 use Rattle.diag_values.specs.declared.ChildIpv6AddrInfo.{ChildIpv6AddrInfo}
 use Rattle.diag_values.proofs.Kept.{kept, list-size}
-use Rattle.diag.specs.Parts.{Said, lastPart}
+use Rattle.diag_entries.specs.Parts.{Said, lastPart}
 use Rattle.diag.specs.Diag.{Diag, diag, decode}
-use Rattle.diag.specs.Answers.{optPart, bytesAt, saidAt, diagOf}
+use Rattle.diag_entries.specs.Answers.{bytesAt, saidAt}
+use Rattle.diag.specs.Answers.{optPart, diagOf}
 use Rattle.diag.specs.declared.OptPart.{OptPart}
 use Rattle.diag.specs.declared.OptPart.the-variants as p
 use Rattle.diag.specs.declared.NetDiagData.{NetDiagData}

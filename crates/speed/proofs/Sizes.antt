@@ -5,8 +5,8 @@ use mathlib.Core.List.{List}
 use Prim.Native.Nat.{ℕ}
 use Rattle.refusal.specs.Answer.{Answer, given, absent, refused, onGiven}
 use Rattle.diag_values.specs.Rows.{Part}
-use Rattle.diag.specs.Parts.{Said}
-use Rattle.diag.specs.Answers.{saidAt}
+use Rattle.diag_entries.specs.Parts.{Said}
+use Rattle.diag_entries.specs.Answers.{saidAt}
 use Rattle.speed.specs.Sums.{plus, orZero, partLen, size}
 
 -- one more number

@@ -14,9 +14,9 @@ use Rattle.diag_values.specs.declared.RouteDataEntry.{RouteDataEntry}
 use Rattle.diag_values.specs.declared.Route64.{Route64}
 use Rattle.diag_values.specs.declared.ChildTableEntry.{ChildTableEntry}
 use Rattle.diag_values.specs.declared.ChildIpv6AddrInfo.{ChildIpv6AddrInfo}
-use Rattle.diag.specs.Parts.{Said, allOf}
+use Rattle.diag_entries.specs.Parts.{Said, allOf}
 use Rattle.diag.specs.Diag.{Diag}
-use Rattle.diag.specs.Answers.{bytesAt}
+use Rattle.diag_entries.specs.Answers.{bytesAt}
 use Rattle.speed.specs.Sums.{plus, onto, orZero, modeSum, valuesSum, partsSum}
 
 -- f 0, f 1, .. f (n - 1) added up

@@ -14,7 +14,7 @@ use Rattle.diag_values.specs.Rows.{Part}
 use Rattle.diag_values.specs.declared.ModeData.{ModeData}
 use Rattle.diag_values.specs.declared.LeaderData.{LeaderData}
 use Rattle.diag_values.specs.declared.MacCounters.{MacCounters}
-use Rattle.diag.specs.Parts.{Said}
+use Rattle.diag_entries.specs.Parts.{Said}
 use Rattle.diag.specs.Diag.{NetworkDataValue, Diag}
 
 unfoldable pub plus : ℕ → ℕ → ℕ

@@ -16,9 +16,10 @@ use Rattle.network_data.specs.Decode.{prefixes, contents, allRoutes, allBorders
 use Rattle.diag_values.specs.Rule.{keepsRule, valueOf}
 use Rattle.refusal.specs.Numbered.{nth}
 use Rattle.diag_values.specs.Rows.{listed, childRows, addresses}
-use Rattle.diag.specs.Parts.{allOf, Said}
-use Rattle.diag.specs.Checked.{entryValue, decoding, checked}
-use Rattle.diag.specs.Diag.{NetworkDataValue, Diag, addressLists, diag, decode, childList}
+use Rattle.diag_entries.specs.Parts.{allOf, Said}
+use Rattle.diag_entries.specs.Checked.{entryValue, decoding, checked}
+use Rattle.diag_entries.specs.Lists.{addressLists, childList}
+use Rattle.diag.specs.Diag.{NetworkDataValue, Diag, diag, decode}
 
 -- a payload, and its refusal: number and place
 abbrev pub Line : Type 0

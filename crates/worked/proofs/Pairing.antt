@@ -12,9 +12,9 @@ use Rattle.tlv.specs.Limits.{limited, framed}
 use Rattle.tlv.specs.Last.{lastOf}
 use Rattle.diag_values.specs.Rule.{keepsRule, valueOf}
 use Rattle.diag_values.specs.Rows.{listed, childRows}
-use Rattle.diag.specs.Parts.{allOf}
-use Rattle.diag.specs.Checked.{entryValue, decoding, checked}
-use Rattle.diag.specs.Diag.{addressLists}
+use Rattle.diag_entries.specs.Parts.{allOf}
+use Rattle.diag_entries.specs.Checked.{entryValue, decoding, checked}
+use Rattle.diag_entries.specs.Lists.{addressLists}
 use Rattle.pairing.specs.Pairing.{occurs, placeOf, pairing, codeNone, codeUnclear}
 use Rattle.pairing.specs.Payload.{rowIds, listIds, pairings, paired, codes}
 

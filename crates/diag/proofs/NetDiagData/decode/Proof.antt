@@ -5,7 +5,7 @@ use Rattle.refusal.specs.Answer.{given, onGiven}
 use Rattle.tlv.specs.Answers.{countedAnswer}
 use borrow.Author.Needs.{needs}
 use Rattle.diag.specs.Diag.{diag, decode}
-use Rattle.diag.proofs.Checks.{checked-given, checked-refused}
+use Rattle.diag_entries.proofs.Checks.{checked-given, checked-refused}
 use Rattle.diag.proofs.Whole.{collected-is}
 use Rattle.diag.proofs.NetDiagData.decode.Statement.{statement}
 use Rattle.diag.proofs.NetDiagData.decode.Tie as tie

@@ -9,8 +9,8 @@ use lib.ListN.{length}
 use Rattle.tlv.specs.Entries.{Framing}
 use Rattle.tlv.specs.Answers.{foundAnswer}
 use Rattle.tlv.proofs.Walks.{from, from-start}
-use Rattle.diag.specs.Parts.{allOf}
-use Rattle.diag.proofs.Lists.{follows, none-left}
+use Rattle.diag_entries.specs.Parts.{allOf}
+use Rattle.diag_entries.proofs.Lists.{follows, none-left}
 use Rattle.speed.specs.Rows.{listsOnto, lists}
 use Rattle.speed.proofs.Rowed.{lists-more, lists-done}
 use borrow.Author.Needs.{needs}

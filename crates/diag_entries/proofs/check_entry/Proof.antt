@@ -1,13 +1,13 @@
--- `diag::check_entry` meets its contract.
+-- `diag_entries::check_entry` meets its contract.
 -- Assumes nothing.
 use mathlib.Core.Path.{sym, ap, _∙_}
 use Rattle.refusal.specs.Answer.{onGiven}
 use Rattle.network_data.specs.Answers.{checkedAnswer}
 use Rattle.diag_values.specs.Answers.{judged}
-use Rattle.diag.proofs.Checks.{network-judged, entry-other}
+use Rattle.diag_entries.proofs.Checks.{network-judged, entry-other}
 use borrow.Author.Needs.{needs}
-use Rattle.diag.proofs.check_entry.Statement.{statement}
-use Rattle.diag.proofs.check_entry.Tie as tie
+use Rattle.diag_entries.proofs.check_entry.Statement.{statement}
+use Rattle.diag_entries.proofs.check_entry.Tie as tie
 
 check-requires : tie.Need-check-requires
 check-requires c κs = search needs

@@ -7,7 +7,7 @@ use types.Run.{OneOf}
 use denote.Enum.Declared.{tagOf}
 use Prim.Native.Nat.{ℕ, zero, suc, _+_, _-_, _≤_, _<_}
 use native.Mathlib.Omega.{arith}
-use lib.ListN.{length, take, drop, getD}
+use lib.ListN.{length, take, drop}
 use lib.Seq.{drop-drop, take-nil}
 use lib.Dec.{eqb}
 use borrow.Author.Tests.{eqb-true, eqb-false}
@@ -32,14 +32,14 @@ use Rattle.diag_values.specs.Rule.{valueOf}
 use Rattle.diag_values.specs.declared.ChildIpv6AddrInfo.{ChildIpv6AddrInfo}
 use Rattle.diag_values.proofs.Kept.{value-cases}
 use Rattle.diag_values.proofs.Listing.{nth-head, nth-tail, nth-empty}
-use Rattle.diag.specs.Parts.{allOf, entriesFrom}
-use Rattle.diag.specs.Checked.{checked}
-use Rattle.diag.specs.Diag.{diag, addressList, addressLists, childList}
-use Rattle.diag.specs.Answers.{saidAt}
-use Rattle.diag.specs.Loops.{listAt}
-use Rattle.diag.proofs.Lasts.{all-hit, all-miss, all-none}
-use Rattle.diag.proofs.Checks.{Decodes, entry-other}
-use Rattle.diag.proofs.Whole.{Of, Sound, all-sound}
+use Rattle.diag_entries.specs.Parts.{allOf, entriesFrom}
+use Rattle.diag_entries.specs.Checked.{checked}
+use Rattle.diag_entries.specs.Lists.{addressList, addressLists, childList}
+use Rattle.diag_entries.specs.Answers.{saidAt}
+use Rattle.diag_entries.specs.Loops.{listAt}
+use Rattle.diag_entries.proofs.Lasts.{all-hit, all-miss, all-none}
+use Rattle.diag_entries.proofs.Checks.{Decodes, entry-other}
+use Rattle.diag_entries.proofs.Sound.{Of, Sound, all-sound}
 
 -- what the contract of `next_child_list` speaks of is the walk from there on
 pub from-there : (s : List ℕ) (at : ℕ) → entriesFrom s at ≡ from s at .entries
@@ -238,25 +238,3 @@ module _ (s : List ℕ) (k : ℕ) (fine : checked s ≡ given (framing s .entrie
   pub child-none : (r : Found) → OneOf (1 ∷ 2 ∷ []) (tagOf Found.the-type r) → foundAnswer r ≡ onGiven spot (nth (allOf 30 (framing s .entries)) k)
       → absent ≡ childList k s
   child-none r o told = none-by (nth (allOf 30 (framing s .entries)) k) (nth-sound s k decodes) r o told ∙ sym child-is
-
--- ---- the record's count and the lists of `child_list` are of one list
-nth-within : {A : Type 0} (l : List A) (k : ℕ) (z : A) → k < length l → nth l k ≡ given (getD l k z)
-unfolding nth
-nth-within [] k z h = absurd (omega arith)
-nth-within (x ∷ l) zero z h = refl
-nth-within (x ∷ l) (suc k) z h = nth-within l k z (omega arith)
-
-nth-after : {A : Type 0} (l : List A) (k : ℕ) → length l ≤ k → nth l k ≡ absent
-unfolding nth
-nth-after [] k h = refl
-nth-after (x ∷ l) zero h = absurd (omega arith)
-nth-after (x ∷ l) (suc k) h = nth-after l k (omega arith)
-
-module _ (s : List ℕ) (es : List Entry) (fine : checked s ≡ given es) (k : ℕ) where
-  pub lists-are : k < diag es .childLists → childList k s ≡ given (getD (addressLists es) k (addressList (entry 0 0 0 [])))
-  unfolding childList diag
-  lists-are h = rw fine (nth-within (addressLists es) k _ h)
-
-  pub lists-end : diag es .childLists ≤ k → childList k s ≡ absent
-  unfolding childList diag
-  lists-end h = rw fine (nth-after (addressLists es) k h)

@@ -1,4 +1,4 @@
--- `diag::check_values` meets its contract. The invariant: n, where the entries from the place at on decode, or the first fault among them, is the
+-- `diag_entries::check_values` meets its contract. The invariant: n, where the entries from the place at on decode, or the first fault among them, is the
 -- answer. The measure is what is left of the payload.
 -- Assumes nothing.
 use mathlib.Core.Path.{_≡_, sym, ap, _∙_}
@@ -11,10 +11,10 @@ use Rattle.refusal.specs.Answer.{onGiven}
 use Rattle.tlv.specs.Answers.{countedAnswer}
 use Rattle.tlv.proofs.Walks.{from, turn-entries, turn-none, turn-inside}
 use Rattle.diag_values.specs.Answers.{judgedAnswer}
-use Rattle.diag.specs.Checked.{checked}
-use Rattle.diag.proofs.Checks.{verdict, verdict-next, verdict-stop, verdict-end, check-start, check-refused}
-use Rattle.diag.proofs.check_values.Statement.{statement}
-use Rattle.diag.proofs.check_values.Tie as tie
+use Rattle.diag_entries.specs.Checked.{checked}
+use Rattle.diag_entries.proofs.Checks.{verdict, verdict-next, verdict-stop, verdict-end, check-start, check-refused}
+use Rattle.diag_entries.proofs.check_values.Statement.{statement}
+use Rattle.diag_entries.proofs.check_values.Tie as tie
 
 abbrev Inv-loop : tie.InvT-loop
 Inv-loop payload n at₀ at = (at ≤ length payload) × (verdict n (from payload at .entries) ≡ onGiven length (checked payload))

@@ -12,7 +12,7 @@ use Rattle.refusal.specs.Every.{Every}
 use Rattle.tlv.specs.Entries.{Entry}
 use Rattle.tlv.specs.Last.{spot, lastOf}
 use Rattle.tlv.proofs.Lasts.{lastSpotOf}
-use Rattle.diag.specs.Parts.{last, allOf}
+use Rattle.diag_entries.specs.Parts.{last, allOf}
 
 module _ (ty : ℕ) (e : Entry) (es : List Entry) where
   pub all-hit : e .ty ≡ ty → allOf ty (e ∷ es) ≡ e ∷ allOf ty es

@@ -19,7 +19,7 @@ use Rattle.network_data.specs.declared.Counts.{Counts}
 use Rattle.diag_values.specs.Rule.{valueOf}
 use Rattle.diag_values.specs.Answers.{judged}
 use Rattle.diag_values.proofs.Kept.{kept}
-use Rattle.diag.specs.Checked.{entryValue, decoding, checked}
+use Rattle.diag_entries.specs.Checked.{entryValue, decoding, checked}
 
 -- ---- the value of one entry
 module _ (ty place : ℕ) (v : List ℕ) where

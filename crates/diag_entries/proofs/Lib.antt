@@ -1,0 +1,5 @@
+pub mod Lasts
+pub mod Checks
+pub mod Sound
+pub mod Lists
+pub mod Papers

@@ -1,0 +1,5 @@
+pub mod Parts
+pub mod Checked
+pub mod Lists
+pub mod Answers
+pub mod Loops
