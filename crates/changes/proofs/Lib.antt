@@ -1,15 +1,4 @@
-pub mod Lasts
-pub mod Folds
-pub mod Weights
-pub mod Backs
-pub mod Reading
-pub mod Limits
-pub mod Effects
-pub mod Demand
 pub mod Calls
-pub mod Papers
-pub mod Places
-pub mod Counts
 pub mod Marks
 pub mod Turns
 pub mod Writes

@@ -11,11 +11,11 @@ use lib.Seq.{getD-set-same, getD-set-other}
 use borrow.Author.Tests.{eqb-true, eqb-false, eq-eqb, ne-eqb}
 use Rattle.laws.proofs.Tests.{by-test}
 use Rattle.tlv.specs.Entries.{Content, content}
-use Rattle.changes.specs.Operations as op
-use Rattle.changes.specs.Operations.{Op, OpAt, opAt, Listed}
-use Rattle.changes.specs.Fold.{about}
+use Rattle.change_lists.specs.Operations as op
+use Rattle.change_lists.specs.Operations.{Op, OpAt, opAt, Listed}
+use Rattle.change_lists.specs.Fold.{about}
 use Rattle.changes.specs.Loops.{shifted, opsAfter, markOf, lastMark, Marked, setBy, chosen}
-use Rattle.changes.proofs.Reading.{opsFrom, ops-start}
+use Rattle.change_lists.proofs.Reading.{opsFrom, ops-start}
 
 -- the operations from a place of a list on that stands after base bytes of another
 unfoldable pub later : (base : ℕ) → List ℕ → ℕ → List OpAt

@@ -1,7 +1,1 @@
-pub mod Operations
-pub mod Run
-pub mod Fold
-pub mod Demand
-pub mod Place
-pub mod Answers
 pub mod Loops

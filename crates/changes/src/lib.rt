@@ -1,140 +1,25 @@
 // Change lists: operations on a dataset, run one after the other and folded to one shortest list.
+use change_lists::CountedOps;
+use change_lists::OpFrame;
 use refusal::Fault;
-use refusal::Refusal;
 use refusal::Written;
 use tlv::Counted;
 use tlv::Frame;
 ghost use mathlib.Core.Path.{_≡_};
 ghost use Prim.Native.Nat.{_+_, _*_, _≤_};
 ghost use lib.ListN.{length};
-ghost use lib.Dec.{eqb};
-ghost use Rattle.refusal.specs.Sizes.{mostBytes, mostEntries, mostValue};
-ghost use Rattle.refusal.specs.Answer.{pick, onGiven};
+ghost use Rattle.refusal.specs.Sizes.{mostBytes, mostValue};
 ghost use Rattle.refusal.specs.Output.{output, emit, writtenAnswer, put};
 ghost use Rattle.tlv.specs.Entries.{content, contents, framing};
 ghost use Rattle.tlv_writing.specs.Encode.{sizeOf, encodeAll};
-ghost use Rattle.tlv.specs.Place.{frameAt};
-ghost use Rattle.changes.specs.Operations.{operations};
-ghost use Rattle.changes.specs.Run.{ran};
-ghost use Rattle.changes.specs.Fold.{encodeOps, folded, foldedTwo};
-ghost use Rattle.changes.specs.Place.{setAt, opFrameAt};
-ghost use Rattle.changes.specs.Answers.{countedOpsAnswer};
+ghost use Rattle.change_lists.specs.Run.{ran};
+ghost use Rattle.change_lists.specs.Fold.{encodeOps, folded, foldedTwo};
 ghost use Rattle.changes.specs.Loops.{opsAfter, Marked, spared, chosen, goneBelow, encodeSet, encodeSets, extentOf, foldedExtent};
-
-// What stands at a place of a list: a set, whose value is the len bytes from start on; a removal; an operation that is cut short or
-// has an unknown mark; or nothing.
-pub enum OpFrame {
-    Set { ty: u8, start: usize, len: usize },
-    Remove { ty: u8 },
-    Bad,
-    End,
-}
-
-pub enum CountedOps {
-    Operations(usize),
-    Refused(Refusal),
-}
 
 // The bytes that some entries take as they are written, and their number.
 struct Extent {
     bytes: usize,
     entries: usize,
-}
-
-// A set whose entry stands at a place.
-fn set_at(list: &[u8], at: usize) -> OpFrame
-    ensures { λ r. ⌜ r ≡ setAt (frameAt (now (list .entry)) at) ⌝ }
-{
-    match tlv::frame_at(list, at) {
-        Frame::Entry { ty, start, len } => OpFrame::Set {
-            ty: ty,
-            start: start,
-            len: len,
-        },
-        _ => OpFrame::Bad,
-    }
-}
-
-// What stands at a place of a list: the step of every walk over operations. The next stands at start + len after a set, and at at + 3
-// after a removal.
-pub fn operation_at(list: &[u8], at: usize) -> OpFrame
-    ensures { λ r. ⌜ r ≡ opFrameAt (now (list .entry)) at ⌝ }
-{
-    let n = list.len();
-    if n <= at {
-        return OpFrame::End;
-    }
-    if n - at < 3 {
-        return OpFrame::Bad;
-    }
-    let first = list[at];
-    let second = list[at + 1];
-    if first == 0x53 {
-        if second == 0x45 {
-            return set_at(list, at + 2);
-        }
-        return OpFrame::Bad;
-    }
-    if first == 0x52 {
-        if second == 0x4D {
-            return OpFrame::Remove { ty: list[at + 2] };
-        }
-    }
-    OpFrame::Bad
-}
-
-// The place of the first operation past the most that a list may have: at, where that many are passed, and else over, as it was.
-fn over_at(n: usize, at: usize, over: usize) -> usize
-    ensures { λ r. ⌜ r ≡ pick (eqb n mostEntries) at over ⌝ }
-{
-    if n == refusal::MAX_ENTRIES { at } else { over }
-}
-
-// How many operations a list has, which is the caller's input of that number. Refusals: 1, 9, 3.
-pub fn count_operations(list: &[u8], input: u8) -> CountedOps
-    ensures { λ r. ⌜ countedOpsAnswer r ≡ onGiven length (operations input (now (list .entry))) ⌝ }
-{
-    if list.len() > refusal::MAX_BYTES {
-        return CountedOps::Refused(Refusal {
-            fault: Fault::TooLarge,
-            place: 0,
-            input: input,
-        });
-    }
-    let mut at: usize = 0;
-    let mut n: usize = 0;
-    let mut over: usize = 0;
-    loop {
-        match operation_at(list, at) {
-            OpFrame::End => {
-                if n > refusal::MAX_ENTRIES {
-                    return CountedOps::Refused(Refusal {
-                        fault: Fault::TooMany,
-                        place: over,
-                        input: input,
-                    });
-                }
-                return CountedOps::Operations(n);
-            }
-            OpFrame::Bad => {
-                return CountedOps::Refused(Refusal {
-                    fault: Fault::BadOperation,
-                    place: at,
-                    input: input,
-                });
-            }
-            OpFrame::Set { ty: _, start, len } => {
-                over = over_at(n, at, over);
-                n += 1;
-                at = start + len;
-            }
-            OpFrame::Remove { ty: _ } => {
-                over = over_at(n, at, over);
-                n += 1;
-                at += 3;
-            }
-        }
-    }
 }
 
 // What each type's last operation leaves at the type: 0 for none, 1 for a removal, for a set 2 and its place. The list stands after
@@ -146,7 +31,7 @@ fn mark(table: [usize; 256], list: &[u8], base: usize) -> [usize; 256]
     let mut marks = table;
     let mut at: usize = 0;
     loop {
-        match operation_at(list, at) {
+        match change_lists::operation_at(list, at) {
             OpFrame::Set { ty, start, len } => {
                 marks[ty as usize] = base + at + 2;
                 at = start + len;
@@ -211,7 +96,7 @@ fn chosen_extent(list: &[u8], marks: [usize; 256], base: usize) -> Extent
     let mut entries: usize = 0;
     let mut at: usize = 0;
     loop {
-        match operation_at(list, at) {
+        match change_lists::operation_at(list, at) {
             OpFrame::Set { ty, start, len } => {
                 let end = start + len;
                 if marks[ty as usize] == base + at + 2 {
@@ -284,7 +169,7 @@ fn put_chosen(
     let mut to = from;
     let mut at: usize = 0;
     loop {
-        match operation_at(list, at) {
+        match change_lists::operation_at(list, at) {
             OpFrame::Set { ty, start, len } => {
                 let end = start + len;
                 if marks[ty as usize] == base + at + 2 {
@@ -349,7 +234,7 @@ pub fn run(dataset: &[u8], list: &[u8], out: &mut [u8]) -> Written
         }
         Counted::Entries(_) => {}
     }
-    match count_operations(list, 1) {
+    match change_lists::count_operations(list, 1) {
         CountedOps::Refused(r) => {
             return Written::Refused(r);
         }
@@ -392,13 +277,13 @@ fn folded_extent(first: &[u8], second: &[u8], marks: [usize; 256]) -> Extent
 pub fn fold_two(first: &[u8], second: &[u8], out: &mut [u8]) -> Written
     ensures { λ r. ⌜ output (writtenAnswer r) (now (out .exit)) ≡ emit (foldedTwo (now (first .entry)) (now (second .entry))) (now (out .entry)) ⌝ }
 {
-    match count_operations(first, 0) {
+    match change_lists::count_operations(first, 0) {
         CountedOps::Refused(r) => {
             return Written::Refused(r);
         }
         CountedOps::Operations(_) => {}
     }
-    match count_operations(second, 1) {
+    match change_lists::count_operations(second, 1) {
         CountedOps::Refused(r) => {
             return Written::Refused(r);
         }

@@ -1,6 +1,6 @@
 // The text of a change list: how many operations, then each.
-use changes::CountedOps;
-use changes::OpFrame;
+use change_lists::CountedOps;
+use change_lists::OpFrame;
 use texts::Room;
 use texts::part_of;
 use texts::put_byte;
@@ -26,7 +26,7 @@ fn put_operations(text: &mut Room, at: usize, list: &[u8]) -> usize {
     let mut next = at;
     let mut place: usize = 0;
     loop {
-        match changes::operation_at(list, place) {
+        match change_lists::operation_at(list, place) {
             OpFrame::Set { ty, start, len } => {
                 let end = start + len;
                 next = put_set(text, next, ty, part_of(list, start, end));
@@ -44,7 +44,7 @@ fn put_operations(text: &mut Room, at: usize, list: &[u8]) -> usize {
 }
 
 pub(crate) fn put_list(text: &mut Room, at: usize, list: &[u8]) -> usize {
-    match changes::count_operations(list, 0) {
+    match change_lists::count_operations(list, 0) {
         CountedOps::Operations(n) => {
             let count = put_one(text, at, n as u64);
             put_operations(text, count, list)

@@ -11,6 +11,7 @@ pub mod ChannelMasks
 pub mod PlainValues
 pub mod Dataset
 pub mod DatasetEdits
+pub mod ChangeLists
 pub mod Changes
 pub mod Delay
 pub mod NetworkData

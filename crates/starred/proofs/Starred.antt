@@ -6,9 +6,9 @@ use Rattle.tlv.specs.Entries.{valued, long, first, contents, step, frames, fram
 use Rattle.tlv.specs.Limits.{limited, framed}
 use Rattle.tlv_writing.specs.Encode.{header, encode, encodeAll, keepsOf, kept, rewritten, setLast, sized}
 use Rattle.values.specs.Threshold.{threshold, withThreshold}
-use Rattle.changes.specs.Operations.{setOf, removalOf, firstOp, opStep, opsIn, opsOf, bare, limitedOps, operations}
-use Rattle.changes.specs.Fold.{about, touches, lasts, setsOf, removes, removalsBelow, types, foldAll, encodeOp, encodeOps, sizedOps, folded}
-use Rattle.changes.specs.Run.{perform, runAll, ran}
+use Rattle.change_lists.specs.Operations.{setOf, removalOf, firstOp, opStep, opsIn, opsOf, bare, limitedOps, operations}
+use Rattle.change_lists.specs.Fold.{about, touches, lasts, setsOf, removes, removalsBelow, types, foldAll, encodeOp, encodeOps, sizedOps, folded}
+use Rattle.change_lists.specs.Run.{perform, runAll, ran}
 use Rattle.network_data.specs.Frame as frame
 use Rattle.network_data.specs.Walk as walk
 use Rattle.network_data.specs.Rules as rules

@@ -12,7 +12,7 @@ use Rattle.tlv.specs.Entries.{Content}
 use Rattle.tlv_writing.specs.Encode.{encodeAll}
 use Rattle.tlv_writing.proofs.Encodes.{size-bound}
 use Rattle.changes.specs.Loops.{extentOf}
-use Rattle.changes.proofs.Places.{turn-none, set-within, removal-inside, set-ops, removal-ops}
+use Rattle.change_lists.proofs.Places.{turn-none, set-within, removal-inside, set-ops, removal-ops}
 use Rattle.changes.proofs.Turns.{chosenFrom, chosen-start, chosen-end, chosen-set, chosen-not, chosen-removal}
 use Rattle.tlv_writing.proofs.Kept.{encode-none}
 use Rattle.changes.proofs.Writes.{all-length, extent-is}

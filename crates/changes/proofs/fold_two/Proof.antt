@@ -10,11 +10,11 @@ use borrow.Author.Needs.{needs}
 use Rattle.refusal.specs.Sizes.{mostBytes}
 use Rattle.refusal.specs.Answer.{given, onGiven}
 use Rattle.laws.proofs.Emits.{emit-refused, emit-no-room, emit-done}
-use Rattle.changes.specs.Operations.{Op, operations}
-use Rattle.changes.specs.Fold.{encodeOps, sizedOps, foldedTwo}
+use Rattle.change_lists.specs.Operations.{Op, operations}
+use Rattle.change_lists.specs.Fold.{encodeOps, sizedOps, foldedTwo}
 use Rattle.changes.specs.Loops.{opsAfter, chosen, goneBelow, encodeSets}
-use Rattle.changes.specs.Answers.{countedOpsAnswer}
-use Rattle.changes.proofs.Counts.{counted-short}
+use Rattle.change_lists.specs.Answers.{countedOpsAnswer}
+use Rattle.change_lists.proofs.Counts.{counted-short}
 use Rattle.changes.proofs.Removals.{gone-bytes}
 use Rattle.changes.proofs.Results.{put-three, ops-too-long, ops-too-many, ops-fit, fold-refused, fold-second-refused, fold-sized}
 use Rattle.changes.proofs.Results.{fewest, fewest-bytes, fewest-parts, fewest-length, fewest-count}

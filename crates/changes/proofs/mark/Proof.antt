@@ -5,7 +5,7 @@ use Prim.Native.Nat.{_-_, _≤_}
 use native.Mathlib.Omega.{arith}
 use lib.ListN.{length}
 use borrow.Author.Needs.{needs}
-use Rattle.changes.proofs.Places.{turn-none, set-within, removal-inside, set-ops, removal-ops}
+use Rattle.change_lists.proofs.Places.{turn-none, set-within, removal-inside, set-ops, removal-ops}
 use Rattle.changes.proofs.Turns.{Going, going-start, going-set, going-removal, going-end}
 use Rattle.changes.proofs.mark.Statement.{statement}
 use Rattle.changes.proofs.mark.Tie as tie

@@ -11,7 +11,7 @@ use Rattle.refusal.specs.Output.{put}
 use Rattle.laws.proofs.Parts.{length-part}
 use Rattle.laws.proofs.Puts.{put-none, put-then}
 use Rattle.changes.specs.Loops.{encodeSets}
-use Rattle.changes.proofs.Places.{turn-none, set-within, removal-inside, set-ops, removal-ops}
+use Rattle.change_lists.proofs.Places.{turn-none, set-within, removal-inside, set-ops, removal-ops}
 use Rattle.changes.proofs.Turns.{chosenFrom, chosen-start, chosen-end, chosen-set, chosen-not, chosen-removal}
 use Rattle.changes.proofs.Writes.{sets-none, sets-more, sets-length-more}
 use Rattle.changes.proofs.put_chosen.Statement.{statement}

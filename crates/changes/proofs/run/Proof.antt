@@ -16,11 +16,11 @@ use Rattle.tlv_writing.specs.Encode.{encodeAll, sized}
 use Rattle.tlv.specs.Answers.{countedAnswer}
 use Rattle.tlv.proofs.Tally as tally
 use Rattle.tlv_writing.proofs.Sets.{sized-bytes, sized-count, sized-is}
-use Rattle.changes.specs.Operations.{operations}
-use Rattle.changes.specs.Run.{ran}
+use Rattle.change_lists.specs.Operations.{operations}
+use Rattle.change_lists.specs.Run.{ran}
 use Rattle.changes.specs.Loops.{opsAfter, spared, chosen, encodeSets}
-use Rattle.changes.specs.Answers.{countedOpsAnswer}
-use Rattle.changes.proofs.Counts.{counted-short}
+use Rattle.change_lists.specs.Answers.{countedOpsAnswer}
+use Rattle.change_lists.proofs.Counts.{counted-short}
 use Rattle.changes.proofs.Results.{put-both, left, run-refused, run-list-refused, run-sized, left-bytes, left-spared, left-chosen, left-length, left-count}
 use Rattle.changes.proofs.run.Statement.{statement}
 use Rattle.changes.proofs.run.Tie as tie

@@ -3,7 +3,7 @@ use Prim.Native.Nat.{_≤_, _-_}
 use lib.ListN.{length}
 use native.Mathlib.Omega.{arith}
 use borrow.Author.Needs.{needs}
-use Rattle.changes.proofs.Places.{set-within, removal-inside}
+use Rattle.change_lists.proofs.Places.{set-within, removal-inside}
 use Rattle.dataset_texts.proofs.lists.put_operations.Statement.{statement}
 use Rattle.dataset_texts.proofs.lists.put_operations.Tie as tie
 

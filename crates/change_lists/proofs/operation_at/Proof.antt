@@ -1,10 +1,10 @@
--- `changes::operation_at` meets its contract: at each `return` the tests that led there say which case of `opFrameAt` holds.
+-- `change_lists::operation_at` meets its contract: at each `return` the tests that led there say which case of `opFrameAt` holds.
 -- Assumes nothing.
 use borrow.Author.Needs.{needs}
 use borrow.Author.Tests.{lt-ltb, le-ltb, le-leb, lt-leb, eq-eqb, ne-eqb}
-use Rattle.changes.specs.Place.{opFrameAt}
-use Rattle.changes.proofs.operation_at.Statement.{statement}
-use Rattle.changes.proofs.operation_at.Tie as tie
+use Rattle.change_lists.specs.Place.{opFrameAt}
+use Rattle.change_lists.proofs.operation_at.Statement.{statement}
+use Rattle.change_lists.proofs.operation_at.Tie as tie
 
 returns : tie.Need-returns
 unfolding opFrameAt

@@ -9,16 +9,16 @@ use Rattle.refusal.specs.Answer.{given}
 use Rattle.tlv.specs.Entries.{entry, contents, valued, first, step, frames, framing}
 use Rattle.tlv.specs.Limits.{limited, framed}
 use Rattle.tlv_writing.specs.Encode.{sized}
-use Rattle.changes.specs.Operations.{Op, bare}
-use Rattle.changes.specs.Run.{runAll, ran}
-use Rattle.changes.specs.Fold.{types, foldAll, encodeOps, sizedOps, folded, foldedTwo}
-use Rattle.changes.specs.Demand.{Changes, Dataset}
+use Rattle.change_lists.specs.Operations.{Op, bare}
+use Rattle.change_lists.specs.Run.{runAll, ran}
+use Rattle.change_lists.specs.Fold.{types, foldAll, encodeOps, sizedOps, folded, foldedTwo}
+use Rattle.change_lists.specs.Demand.{Changes, Dataset}
 use Rattle.laws.proofs.Parts.{every-append}
-use Rattle.changes.proofs.Folds.{Typed, run-fold, fold-fold, fold-two, fold-three}
-use Rattle.changes.proofs.Backs.{ops-alike}
-use Rattle.changes.proofs.Reading.{Writable}
-use Rattle.changes.proofs.Limits.{ops-within, typed, input-alike, fold-given, made}
-use Rattle.changes.proofs.Effects.{run-empty, same-effects}
+use Rattle.change_lists.proofs.Folds.{Typed, run-fold, fold-fold, fold-two, fold-three}
+use Rattle.change_lists.proofs.Backs.{ops-alike}
+use Rattle.change_lists.proofs.Reading.{Writable}
+use Rattle.change_lists.proofs.Limits.{ops-within, typed, input-alike, fold-given, made}
+use Rattle.change_lists.proofs.Effects.{run-empty, same-effects}
 
 -- ---- what the calls answer, by the list's operations
 

@@ -1,11 +1,11 @@
--- `changes::set_at` meets its contract.
+-- `change_lists::set_at` meets its contract.
 -- Assumes nothing.
 use mathlib.Core.Path.{sym, ap, _∙_}
 use borrow.Author.Needs.{needs}
-use Rattle.changes.specs.Place.{setAt}
-use Rattle.changes.proofs.Places.{set-none}
-use Rattle.changes.proofs.set_at.Statement.{statement}
-use Rattle.changes.proofs.set_at.Tie as tie
+use Rattle.change_lists.specs.Place.{setAt}
+use Rattle.change_lists.proofs.Places.{set-none}
+use Rattle.change_lists.proofs.set_at.Statement.{statement}
+use Rattle.change_lists.proofs.set_at.Tie as tie
 
 frame-at-requires : tie.Need-frame-at-requires
 frame-at-requires c κs = search needs

@@ -1,4 +1,4 @@
--- What demand 3 says of change lists and datasets, by name. The demand itself is proofs/Demand.antt, and of the calls' answers proofs/Calls.antt.
+-- What demand 3 says of change lists and datasets, by name. The demand itself is proofs/Demand.antt, and of the calls' answers changes/proofs/Calls.antt.
 -- Assumes nothing.
 use Prim.Native.Nat.{ℕ}
 use mathlib.Core.Path.{_≡_}
@@ -10,9 +10,9 @@ use Rattle.refusal.specs.Every.{Bytes}
 use Rattle.refusal.specs.Output.{Output, emit}
 use Rattle.tlv.specs.Entries.{Entry}
 use Rattle.tlv.specs.Limits.{framed}
-use Rattle.changes.specs.Operations.{OpAt, operations}
-use Rattle.changes.specs.Run.{ran}
-use Rattle.changes.specs.Fold.{folded, foldedTwo}
+use Rattle.change_lists.specs.Operations.{OpAt, operations}
+use Rattle.change_lists.specs.Run.{ran}
+use Rattle.change_lists.specs.Fold.{folded, foldedTwo}
 
 -- bytes that are a change list within the limits: its operations are given
 pub record Changes (l : List ℕ) : Type 0 where

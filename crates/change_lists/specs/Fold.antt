@@ -9,7 +9,7 @@ use lib.Dec.{ltb, eqb}
 use Rattle.refusal.specs.Sizes.{mostBytes, mostEntries}
 use Rattle.refusal.specs.Answer.{pick, Answer, given, refused, thenDo}
 use Rattle.tlv_writing.specs.Encode.{encode}
-use Rattle.changes.specs.Operations.{Op, set, remove, OpAt, bare, operations}
+use Rattle.change_lists.specs.Operations.{Op, set, remove, OpAt, bare, operations}
 
 -- the type that an operation is about
 unfoldable pub about : Op → ℕ

@@ -21,12 +21,12 @@ use Rattle.tlv.specs.declared.Frame.{Frame}
 use Rattle.tlv.specs.declared.Frame.the-variants as f
 use Rattle.tlv.proofs.Frame
 use Rattle.tlv.proofs.Walks.{Agree, frame-agrees, Inside, inside}
-use Rattle.changes.specs.Operations.{set, remove, FirstOp, nothing, bad, operation, setOf, removalOf, firstOp, opAt, Listed, endsWith, after, opStep}
-use Rattle.changes.specs.Place.{setAt, opFrameAt}
-use Rattle.changes.specs.declared.OpFrame.{OpFrame}
-use Rattle.changes.specs.declared.OpFrame.the-variants as o
-use Rattle.changes.proofs.OpFrame
-use Rattle.changes.proofs.Reading.{opsFrom, ops-step}
+use Rattle.change_lists.specs.Operations.{set, remove, FirstOp, nothing, bad, operation, setOf, removalOf, firstOp, opAt, Listed, endsWith, after, opStep}
+use Rattle.change_lists.specs.Place.{setAt, opFrameAt}
+use Rattle.change_lists.specs.declared.OpFrame.{OpFrame}
+use Rattle.change_lists.specs.declared.OpFrame.the-variants as o
+use Rattle.change_lists.proofs.OpFrame
+use Rattle.change_lists.proofs.Reading.{opsFrom, ops-step}
 
 -- ---- an operation lies within the list, after its place
 

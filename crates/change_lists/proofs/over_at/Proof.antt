@@ -1,8 +1,8 @@
--- `changes::over_at` meets its contract.
+-- `change_lists::over_at` meets its contract.
 -- Assumes nothing.
 use borrow.Author.Tests.{eq-eqb, ne-eqb}
-use Rattle.changes.proofs.over_at.Statement.{statement}
-use Rattle.changes.proofs.over_at.Tie as tie
+use Rattle.change_lists.proofs.over_at.Statement.{statement}
+use Rattle.change_lists.proofs.over_at.Tie as tie
 
 returns : tie.Need-returns
 returns c = simp (eq-eqb _ _ (c .if1 .taken))

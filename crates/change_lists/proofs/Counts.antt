@@ -14,9 +14,9 @@ use Rattle.refusal.specs.Sizes.{mostBytes, mostEntries}
 use Rattle.refusal.specs.Answer.{pick, Answer, given, absent, refused, onGiven, thenDo}
 use Rattle.laws.proofs.Tests.{by-test}
 use Rattle.tlv.specs.Entries.{Stop, clean, cutAt}
-use Rattle.changes.specs.Operations.{remove, OpAt, opAt, Listed, endsWith, after, opsOf, placeOfNextOp, limitedOps, operations}
-use Rattle.changes.proofs.Reading.{opsFrom, ops-start}
-use Rattle.changes.proofs.Limits.{Read, was-given}
+use Rattle.change_lists.specs.Operations.{remove, OpAt, opAt, Listed, endsWith, after, opsOf, placeOfNextOp, limitedOps, operations}
+use Rattle.change_lists.proofs.Reading.{opsFrom, ops-start}
+use Rattle.change_lists.proofs.Limits.{Read, was-given}
 
 module _ (i : ℕ) where
   tallyBy : ℕ → ℕ → Stop → List OpAt → Answer ℕ

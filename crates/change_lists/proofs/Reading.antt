@@ -16,8 +16,8 @@ use Rattle.refusal.specs.Every.{Every, Bytes}
 use Rattle.tlv.specs.Entries.{First, none, cut, one, valued, long, first}
 use Rattle.tlv_writing.specs.Encode.{header, encode}
 use Rattle.tlv_writing.proofs.Encodes.{header-short, header-long}
-use Rattle.changes.specs.Operations.{Op, FirstOp, nothing, bad, operation, setOf, removalOf, firstOp, OpAt, opAt, Listed, after, opStep, opsIn, opsOf, bare}
-use Rattle.changes.specs.Fold.{encodeOp, encodeOps}
+use Rattle.change_lists.specs.Operations.{Op, FirstOp, nothing, bad, operation, setOf, removalOf, firstOp, OpAt, opAt, Listed, after, opStep, opsIn, opsOf, bare}
+use Rattle.change_lists.specs.Fold.{encodeOp, encodeOps}
 use Rattle.laws.proofs.Parts.{every-append, every-parts, every-take, every-drop}
 
 -- ---- what stands first

@@ -14,14 +14,14 @@ use Rattle.tlv.specs.Entries.{Stop, clean, cutAt}
 use Rattle.tlv_writing.specs.Encode.{header, encode}
 use Rattle.tlv_writing.proofs.Encodes.{header-short, header-long}
 use Rattle.refusal.specs.Every.{Bytes}
-use Rattle.changes.specs.Operations.{Op, set, remove, OpAt, opsOf, bare, limitedOps, operations}
-use Rattle.changes.specs.Fold.{about, types, foldAll, encodeOp, encodeOps, sizedOps}
-use Rattle.changes.specs.Demand.{Changes}
+use Rattle.change_lists.specs.Operations.{Op, set, remove, OpAt, opsOf, bare, limitedOps, operations}
+use Rattle.change_lists.specs.Fold.{about, types, foldAll, encodeOp, encodeOps, sizedOps}
+use Rattle.change_lists.specs.Demand.{Changes}
 use Rattle.laws.proofs.Parts.{every-append, every-parts}
-use Rattle.changes.proofs.Folds.{Typed, every-fold}
-use Rattle.changes.proofs.Weights.{fold-bytes, fold-count}
-use Rattle.changes.proofs.Backs.{ops-back}
-use Rattle.changes.proofs.Reading.{Writable, read-good}
+use Rattle.change_lists.proofs.Folds.{Typed, every-fold}
+use Rattle.change_lists.proofs.Weights.{fold-bytes, fold-count}
+use Rattle.change_lists.proofs.Backs.{ops-back}
+use Rattle.change_lists.proofs.Reading.{Writable, read-good}
 
 -- ---- when the operations of a list are given
 pub record Read (s : List ℕ) (os : List OpAt) : Type 0 where

@@ -1,4 +1,4 @@
--- `changes::count_operations` meets its contract. The invariant: counting on from the place at, with n operations passed, gives the answer.
+-- `change_lists::count_operations` meets its contract. The invariant: counting on from the place at, with n operations passed, gives the answer.
 -- The measure is what is left of the list.
 -- Assumes nothing.
 use mathlib.Core.Path.{_≡_, sym, ap, _∙_}
@@ -8,12 +8,12 @@ use lib.ListN.{length}
 use borrow.Author.Needs.{needs}
 use borrow.Author.Tests.{lt-ltb, le-ltb}
 use Rattle.refusal.specs.Answer.{onGiven}
-use Rattle.changes.specs.Operations.{operations}
-use Rattle.changes.proofs.Reading.{opsFrom}
-use Rattle.changes.proofs.Places.{turn-end, turn-bad, turn-set, turn-removal, set-within, removal-inside}
-use Rattle.changes.proofs.Counts.{tally, tally-start, tally-more, tally-over, tally-fits, tally-bad}
-use Rattle.changes.proofs.count_operations.Statement.{statement}
-use Rattle.changes.proofs.count_operations.Tie as tie
+use Rattle.change_lists.specs.Operations.{operations}
+use Rattle.change_lists.proofs.Reading.{opsFrom}
+use Rattle.change_lists.proofs.Places.{turn-end, turn-bad, turn-set, turn-removal, set-within, removal-inside}
+use Rattle.change_lists.proofs.Counts.{tally, tally-start, tally-more, tally-over, tally-fits, tally-bad}
+use Rattle.change_lists.proofs.count_operations.Statement.{statement}
+use Rattle.change_lists.proofs.count_operations.Tie as tie
 
 abbrev Inv-loop : tie.InvT-loop
 Inv-loop list input at₀ n₀ over₀ at n over =

@@ -8,8 +8,8 @@ use Rattle.refusal.specs.Answer.{pick}
 use Rattle.tlv.specs.declared.Frame.{Frame}
 use Rattle.tlv.specs.declared.Frame.the-variants as f
 use Rattle.tlv.specs.Place.{frameAt}
-use Rattle.changes.specs.declared.OpFrame.{OpFrame}
-use Rattle.changes.specs.declared.OpFrame.the-variants as o
+use Rattle.change_lists.specs.declared.OpFrame.{OpFrame}
+use Rattle.change_lists.specs.declared.OpFrame.the-variants as o
 
 -- a set of the entry that stands after the mark
 unfoldable pub setAt : Frame → OpFrame

@@ -11,9 +11,9 @@ use Rattle.laws.proofs.Tests.{by-test}
 use Rattle.tlv.specs.Entries.{Content}
 use Rattle.tlv_writing.specs.Encode.{keepsOf, kept, setLast}
 use Rattle.tlv_writing.specs.declared.Choice.the-variants.{Without}
-use Rattle.changes.specs.Operations.{Op, set, remove}
-use Rattle.changes.specs.Run.{perform, runAll}
-use Rattle.changes.specs.Fold.{about, touches, lasts, setsOf, removes}
+use Rattle.change_lists.specs.Operations.{Op, set, remove}
+use Rattle.change_lists.specs.Run.{perform, runAll}
+use Rattle.change_lists.specs.Fold.{about, touches, lasts, setsOf, removes}
 
 -- the entries, and the operations, whose type does not pass the test
 unfoldable pub without : (ℕ → Bool) → List Content → List Content

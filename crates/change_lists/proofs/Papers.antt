@@ -2,8 +2,8 @@
 -- Assumes nothing.
 use mathlib.Core.Path.{refl, ap}
 use Rattle.refusal.proofs.Papers.{Tells, tells, refusal-back, codeOf}
-use Rattle.changes.specs.Answers.{countedOpsAnswer}
-use Rattle.changes.specs.declared.CountedOps.the-variants as c
+use Rattle.change_lists.specs.Answers.{countedOpsAnswer}
+use Rattle.change_lists.specs.declared.CountedOps.the-variants as c
 
 pub counted-tells : Tells countedOpsAnswer
 counted-tells =

@@ -8,7 +8,7 @@ use Rattle.tlv.specs.Entries.{Entry, Content, contents}
 use Rattle.tlv.specs.Limits.{framed}
 use Rattle.tlv_writing.specs.Encode.{kept, setLast, sized}
 use Rattle.tlv_writing.specs.declared.Choice.the-variants.{Without}
-use Rattle.changes.specs.Operations.{Op, set, remove, OpAt, bare, operations}
+use Rattle.change_lists.specs.Operations.{Op, set, remove, OpAt, bare, operations}
 
 -- one operation, by the definitions of the dataset's edits
 unfoldable pub perform : Op → List Content → List Content

@@ -1,0 +1,11 @@
+pub mod Lasts
+pub mod Folds
+pub mod Weights
+pub mod Backs
+pub mod Reading
+pub mod Limits
+pub mod Effects
+pub mod Demand
+pub mod Papers
+pub mod Places
+pub mod Counts
