@@ -1,16 +1,12 @@
 // The calls whose instructions bench/ counts, under C names: each answers what is given, or 2^63 plus the number of the refusal.
-mod rows;
-mod sums;
-
-use diag::Decoded;
-use diag::NetDiagData;
 use diag_values::ModeData;
 use diag_values::ReadMode;
 use network_data::Checked;
+use payload_sums::Summed;
+use payload_sums::counts_sum;
+use payload_sums::mode_sum;
+use payload_sums::sum_payload;
 use refusal::Written;
-use rows::payload_sum;
-use sums::counts_sum;
-use sums::mode_sum;
 use tlv::Counted;
 ghost use mathlib.Core.Path.{_≡_};
 ghost use lib.ListN.{length};
@@ -29,8 +25,8 @@ ghost use Rattle.diag_values.specs.Values.{modeValue};
 ghost use Rattle.diag_values.specs.Rule.{valueOf};
 ghost use Rattle.diag.specs.Diag.{decode};
 ghost use Rattle.speed.specs.Code.{code};
-ghost use Rattle.speed.specs.Sums.{modeSum, countsSum};
-ghost use Rattle.speed.specs.Rows.{payloadSum};
+ghost use Rattle.payload_sums.specs.Sums.{modeSum, countsSum};
+ghost use Rattle.payload_sums.specs.Rows.{payloadSum};
 
 const NONE: u64 = 9223372036854775808;
 
@@ -130,8 +126,8 @@ pub extern "C" fn speed_network(value: &[u8]) -> u64
 pub extern "C" fn speed_payload(payload: &[u8]) -> u64
     ensures { λ r. ⌜ r ≡ code (onGiven (payloadSum (now (payload .entry))) (decode (now (payload .entry)))) ⌝ }
 {
-    match NetDiagData::decode(payload) {
-        Decoded::Data(d) => payload_sum(payload, d),
-        Decoded::Refused(r) => coded(Written::Refused(r)),
+    match sum_payload(payload) {
+        Summed::Sum(n) => n,
+        Summed::Refused(r) => coded(Written::Refused(r)),
     }
 }

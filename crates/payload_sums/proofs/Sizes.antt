@@ -1,0 +1,24 @@
+-- Sums, one number after the other, and parts of a payload in them.
+-- Assumes nothing.
+use mathlib.Core.Path.{_≡_, refl, ap, _∙_}
+use mathlib.Core.List.{List}
+use Prim.Native.Nat.{ℕ}
+use Rattle.refusal.specs.Answer.{Answer, given, absent, refused, onGiven}
+use Rattle.diag_values.specs.Rows.{Part}
+use Rattle.diag_entries.specs.Parts.{Said}
+use Rattle.diag_entries.specs.Answers.{saidAt}
+use Rattle.payload_sums.specs.Sums.{plus, orZero, partLen, size}
+
+-- one more number
+pub adds : {r n m x y : ℕ} → r ≡ plus n x → n ≡ m → x ≡ y → r ≡ plus m y
+adds {m = m} {x = x} e l h = e ∙ ap (λ k. plus k x) l ∙ ap (plus m) h
+
+-- g says of a part with what is said there what h says of the part
+pub said-part : {A : Type 0} (f : List ℕ → A) (s : List ℕ) (g : Said A → ℕ) (h : Part → ℕ) → ((p : Part) → h p ≡ g (saidAt f s p)) → (a : Answer Part)
+    → orZero h a ≡ orZero g (onGiven (saidAt f s) a)
+said-part f s g h same (given p) = same p
+said-part f s g h same absent = refl
+said-part f s g h same (refused n q i) = refl
+
+pub part-size : {A : Type 0} (f : List ℕ → A) (s : List ℕ) (a : Answer Part) → orZero partLen a ≡ size (onGiven (saidAt f s) a)
+part-size {A} f s a = said-part f s (λ (x : Said A). x .len) partLen (λ p. refl) a

@@ -1,0 +1,16 @@
+-- `payload_sums::sums::plus` meets its contract.
+-- Assumes nothing.
+use borrow.Author.Needs.{needs}
+use Rattle.payload_sums.specs.Sums.{plus}
+use Rattle.payload_sums.proofs.sums.plus.Statement.{statement}
+use Rattle.payload_sums.proofs.sums.plus.Tie as tie
+
+wrapping-add-u64-requires : tie.Need-wrapping-add-u64-requires
+wrapping-add-u64-requires c κs = tt
+
+returns : tie.Need-returns
+unfolding plus
+returns c = search needs
+
+pub plus-spec : {M : Type 1} → statement M
+plus-spec = tie.close (tie.spec wrapping-add-u64-requires returns)
