@@ -25,13 +25,12 @@ use Rattle.tlv.specs.declared.Found.{Found}
 use Rattle.tlv.specs.declared.Found.the-variants as d
 use Rattle.tlv.specs.declared.Frame.{Frame}
 use Rattle.tlv.specs.declared.Frame.the-variants as f
-use Rattle.diag_values.specs.Values.{addressListOf}
 use Rattle.refusal.specs.Numbered.{nth}
-use Rattle.diag_values.specs.Rows.{part, addresses}
+use Rattle.diag_rows.specs.Rows.{part, addresses, addressListOf}
 use Rattle.diag_values.specs.Rule.{valueOf}
-use Rattle.diag_values.specs.declared.ChildIpv6AddrInfo.{ChildIpv6AddrInfo}
+use Rattle.diag_rows.specs.declared.ChildIpv6AddrInfo.{ChildIpv6AddrInfo}
 use Rattle.diag_values.proofs.Kept.{value-cases}
-use Rattle.diag_values.proofs.Listing.{nth-head, nth-tail, nth-empty}
+use Rattle.diag_rows.proofs.Listing.{nth-head, nth-tail, nth-empty}
 use Rattle.diag.specs.Parts.{allOf, entriesFrom}
 use Rattle.diag.specs.Checked.{checked}
 use Rattle.diag.specs.Diag.{diag, addressList, addressLists, childList}

@@ -13,7 +13,7 @@ use Rattle.diag_values.specs.declared.OptU8.{OptU8}
 use Rattle.diag_values.specs.declared.OptU8.the-variants as o8
 use Rattle.diag_values.specs.declared.OptU16.{OptU16}
 use Rattle.diag_values.specs.declared.OptU16.the-variants as o16
-use Rattle.diag_values.specs.declared.ReadAddressList.the-variants as a
+use Rattle.diag_rows.specs.declared.ReadAddressList.the-variants as a
 use Rattle.diag.specs.Parts.{Said}
 use Rattle.diag.specs.Diag.{NetworkDataValue, Diag, AddressList}
 use Rattle.diag.specs.Answers.{optAnswer32, optMode, optConnectivity, optLeaderData, optMacCounters, optPart, saidAt, optNetworkData, diagOf, decodedAnswer, childListAnswer}

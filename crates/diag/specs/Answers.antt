@@ -7,14 +7,14 @@ use Rattle.refusal.specs.Answer.{Answer, given, absent, onGiven}
 use Rattle.refusal.specs.Number.{refusalAnswer}
 use Rattle.network_data.specs.Decode.{contents}
 use Rattle.diag_values.specs.Values.{ConnectivityValue}
-use Rattle.diag_values.specs.Routes.{routeOf}
-use Rattle.diag_values.specs.Rows.{Part, part, childRows, addresses}
+use Rattle.diag_rows.specs.Routes.{routeOf}
+use Rattle.diag_rows.specs.Rows.{Part, part, childRows, addresses}
 use Rattle.diag_values.specs.Answers.{optAnswer8, optAnswer16, connectivityPaper}
 use Rattle.diag_values.specs.declared.ModeData.{ModeData}
 use Rattle.diag_values.specs.declared.LeaderData.{LeaderData}
 use Rattle.diag_values.specs.declared.MacCounters.{MacCounters}
-use Rattle.diag_values.specs.declared.ReadAddressList.{ReadAddressList}
-use Rattle.diag_values.specs.declared.ReadAddressList.the-variants as a
+use Rattle.diag_rows.specs.declared.ReadAddressList.{ReadAddressList}
+use Rattle.diag_rows.specs.declared.ReadAddressList.the-variants as a
 use Rattle.diag.specs.Parts.{Said}
 use Rattle.diag.specs.Diag.{NetworkDataValue, raw, Diag, AddressList}
 use Rattle.diag.specs.declared.OptU32.{OptU32}

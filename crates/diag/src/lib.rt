@@ -1,5 +1,5 @@
 // What a diagnostic payload says (decode.rs, model.rs): the record of its values, those that stay in the payload as parts of it.
-use diag_values::ChildIpv6AddrInfo;
+use diag_rows::ChildIpv6AddrInfo;
 use diag_values::Connectivity;
 use diag_values::Judged;
 use diag_values::LeaderData;
@@ -8,7 +8,7 @@ use diag_values::ModeData;
 use diag_values::OptU8;
 use diag_values::OptU16;
 use diag_values::Read8;
-use diag_values::ReadAddressList;
+use diag_rows::ReadAddressList;
 use diag_values::ReadConnectivity;
 use diag_values::ReadLeaderData;
 use diag_values::ReadMacCounters;
@@ -448,7 +448,7 @@ fn list_at(payload: &[u8], place: usize, start: usize, len: usize) -> ReadAddres
     requires { ⌜ start + len ≤ length (now payload) ⌝ }
     ensures { λ r. ⌜ childListAnswer (now (payload .entry)) r ≡ listAt (now (payload .entry)) place start len ⌝ }
 {
-    match diag_values::decode_child_ipv6_addresses(&payload[start..start + len], place) {
+    match diag_rows::decode_child_ipv6_addresses(&payload[start..start + len], place) {
         ReadAddressList::Value(x) => ReadAddressList::Value(ChildIpv6AddrInfo {
             rloc16: x.rloc16,
             child_id: x.child_id,

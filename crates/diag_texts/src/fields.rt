@@ -5,7 +5,7 @@ use diag_values::MacCounters;
 use diag_values::ModeData;
 use diag_values::OptU8;
 use diag_values::OptU16;
-use diag_values::Route64;
+use diag_rows::Route64;
 use texts::Room;
 use texts::put_byte;
 use texts::put_hex;

@@ -1,13 +1,13 @@
 // The text of each kind of row, and of rows parted by `/`.
 use crate::fields::digit;
 use crate::fields::put_mode;
-use diag_values::ChildIpv6AddrInfo;
-use diag_values::ChildTableEntry;
+use diag_rows::ChildIpv6AddrInfo;
+use diag_rows::ChildTableEntry;
 use diag_values::ModeData;
-use diag_values::ReadAddressList;
-use diag_values::ReadChild;
-use diag_values::ReadRoute;
-use diag_values::RouteDataEntry;
+use diag_rows::ReadAddressList;
+use diag_rows::ReadChild;
+use diag_rows::ReadRoute;
+use diag_rows::RouteDataEntry;
 use network_data::BorderRouterEntry;
 use network_data::HasRouteEntry;
 use network_data::OptContext;
@@ -174,8 +174,8 @@ fn put_read_border_router(text: &mut Room, at: usize, r: ReadBorderRouter) -> us
 
 fn put_row(text: &mut Room, at: usize, rows: Rows, s: &[u8], k: usize) -> usize {
     match rows {
-        Rows::Routes => put_read_route(text, at, diag_values::route64_row(s, k)),
-        Rows::Children => put_read_child(text, at, diag_values::child_row(s, k)),
+        Rows::Routes => put_read_route(text, at, diag_rows::route64_row(s, k)),
+        Rows::Children => put_read_child(text, at, diag_rows::child_row(s, k)),
         Rows::Lists => put_read_list(text, at, s, diag::child_list(s, k)),
         Rows::Prefixes => put_read_prefix(text, at, network_tables::prefix_at(s, k)),
         Rows::HasRoutes => put_read_has_route(text, at, network_tables::has_route_at(s, k)),

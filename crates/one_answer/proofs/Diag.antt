@@ -11,7 +11,7 @@ use Rattle.diag.specs.Diag.{childList, decode}
 use Rattle.diag.specs.Parts.{allOf, entriesFrom}
 use Rattle.diag.specs.declared.Decoded.{Decoded}
 use Rattle.refusal.specs.Numbered.{nth}
-use Rattle.diag_values.specs.declared.ReadAddressList.{ReadAddressList}
+use Rattle.diag_rows.specs.declared.ReadAddressList.{ReadAddressList}
 use Rattle.refusal.specs.Answer.{onGiven}
 use Rattle.tlv.proofs.Papers.{counted-tells, found-tells}
 use Rattle.tlv.specs.Answers.{countedAnswer, foundAnswer}

@@ -17,6 +17,7 @@ pub mod NetworkData
 pub mod NetworkTables
 pub mod NetworkBridge
 pub mod DiagValues
+pub mod DiagRows
 pub mod Diag
 pub mod DiagTables
 pub mod DiagBridge

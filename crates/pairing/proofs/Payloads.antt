@@ -17,10 +17,9 @@ use Rattle.tlv.specs.Limits.{framed, count}
 use Rattle.tlv.proofs.Tally.{Only, only, counted-short}
 use Rattle.tlv.specs.Last.{lastOf, lastEntry, valueOr, lastValue}
 use Rattle.diag_values.specs.Rule.{keepsRule, valueOf}
-use Rattle.diag_values.specs.Values.{addressListOf}
 use Rattle.refusal.specs.Numbered.{nth}
-use Rattle.diag_values.specs.Rows.{childAt, childRows}
-use Rattle.diag_values.specs.declared.ChildTableEntry.{ChildTableEntry}
+use Rattle.diag_rows.specs.Rows.{childAt, childRows, addressListOf}
+use Rattle.diag_rows.specs.declared.ChildTableEntry.{ChildTableEntry}
 use Rattle.diag.specs.Parts.{last, allOf}
 use Rattle.diag.specs.Checked.{decoding, checked}
 use Rattle.diag.specs.Diag.{addressLists}

@@ -8,11 +8,10 @@ use lib.Dec.{eqb}
 use Rattle.refusal.specs.Answer.{pick, Answer, given, absent, refused, thenDo, onGiven}
 use Rattle.tlv.specs.Entries.{Entry}
 use Rattle.diag_values.specs.Rule.{valueOf}
-use Rattle.diag_values.specs.Values.{addressListOf}
 use Rattle.refusal.specs.Numbered.{nth}
-use Rattle.diag_values.specs.Rows.{listed, childRows}
-use Rattle.diag_values.specs.declared.ChildTableEntry.{ChildTableEntry}
-use Rattle.diag_values.specs.declared.ChildIpv6AddrInfo.{ChildIpv6AddrInfo}
+use Rattle.diag_rows.specs.Rows.{listed, childRows, addressListOf}
+use Rattle.diag_rows.specs.declared.ChildTableEntry.{ChildTableEntry}
+use Rattle.diag_rows.specs.declared.ChildIpv6AddrInfo.{ChildIpv6AddrInfo}
 use Rattle.diag.specs.Parts.{allOf}
 use Rattle.pairing.specs.Pairing.{occurs, codeOf}
 use Rattle.pairing.specs.declared.Pairing.{Pairing}

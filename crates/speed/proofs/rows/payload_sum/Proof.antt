@@ -1,8 +1,8 @@
 -- `speed::rows::payload_sum` meets its contract.
 -- Assumes nothing.
 use mathlib.Core.Path.{_∙_, refl}
-use Rattle.diag_values.specs.Routes.{routeOf}
-use Rattle.diag_values.specs.Rows.{childRows, addresses}
+use Rattle.diag_rows.specs.Routes.{routeOf}
+use Rattle.diag_rows.specs.Rows.{childRows, addresses}
 use Rattle.diag.specs.Answers.{optPart, diagOf}
 use Rattle.speed.specs.Rows.{routes, children, addressesSum, payloadSum}
 use Rattle.speed.proofs.Sizes.{adds}

@@ -1,7 +1,7 @@
 -- `speed::rows::routes_in` meets its contract.
 -- Assumes nothing.
 use Rattle.speed.specs.Rows.{route64Sum}
-use Rattle.diag_values.specs.Routes.{RouteRead}
+use Rattle.diag_rows.specs.Routes.{RouteRead}
 use Rattle.speed.proofs.Rowed.{held}
 use mathlib.Core.Path.{ap, _∙_}
 use native.Mathlib.Omega.{arith}
