@@ -1,5 +1,6 @@
 // What a diagnostic payload says (decode.rs, model.rs): the record of its values, those that stay in the payload as parts of it.
 use diag_rows::ChildIpv6AddrInfo;
+use diag_rows::ReadAddressList;
 use diag_values::Connectivity;
 use diag_values::Judged;
 use diag_values::LeaderData;
@@ -8,7 +9,6 @@ use diag_values::ModeData;
 use diag_values::OptU8;
 use diag_values::OptU16;
 use diag_values::Read8;
-use diag_rows::ReadAddressList;
 use diag_values::ReadConnectivity;
 use diag_values::ReadLeaderData;
 use diag_values::ReadMacCounters;

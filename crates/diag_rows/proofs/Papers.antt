@@ -1,6 +1,6 @@
 -- The meanings of the code's answers tell them apart, so that a contract on a meaning determines the answer.
 -- Assumes nothing.
-use mathlib.Core.Path.{_≡_, refl, ap}
+use mathlib.Core.Path.{refl, ap}
 use Rattle.refusal.proofs.Papers.{Tells, tells, refusal-back, codeOf}
 use Rattle.diag_values.specs.declared.Judged.{Judged}
 use Rattle.diag_values.proofs.Papers.{judgedOf, judged-back}
