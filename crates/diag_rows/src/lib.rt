@@ -88,7 +88,7 @@ fn u16_at(v: &[u8], at: usize) -> u16
     (v[at] as u16) * 256 + v[at + 1] as u16
 }
 
-// Type 30. Refusals, here and below: those of `diag_values::check_value`.
+// Type 30.
 fn address_list_of(v: &[u8]) -> ChildIpv6AddrInfo
     requires { ⌜ 2 ≤ length (now v) ⌝ }
     ensures { λ r. ⌜ r ≡ addressListOf (now (v .entry)) ⌝ }
@@ -102,7 +102,7 @@ fn address_list_of(v: &[u8]) -> ChildIpv6AddrInfo
     }
 }
 
-// A child's RLOC16, its ID, and where its addresses stand in the value.
+// A child's RLOC16, its ID, and where its addresses stand in the value. Refusals, here and below: those of `diag_values::check_value`.
 pub fn decode_child_ipv6_addresses(value: &[u8], place: usize) -> ReadAddressList
     ensures { λ r. ⌜ addressListAnswer r ≡ onGiven addressListOf (valueOf 30 place (now (value .entry))) ⌝ }
 {
