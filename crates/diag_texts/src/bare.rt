@@ -9,16 +9,16 @@ use crate::rows::Rows;
 use crate::rows::put_list;
 use crate::rows::put_route;
 use crate::rows::put_rows;
+use diag_rows::ReadAddressList;
+use diag_rows::ReadRoute64;
+use diag_rows::Route64;
 use diag_values::Judged;
 use diag_values::ModeData;
 use diag_values::Read8;
-use diag_values::ReadAddressList;
 use diag_values::ReadConnectivity;
 use diag_values::ReadLeaderData;
 use diag_values::ReadMacCounters;
 use diag_values::ReadMode;
-use diag_values::ReadRoute64;
-use diag_values::Route64;
 use texts::Room;
 use texts::put_absent;
 use texts::put_byte;
@@ -113,7 +113,7 @@ fn put_bare_mac_counters(text: &mut Room, at: usize, ty: u8, r: ReadMacCounters)
 }
 
 fn put_bare_list(text: &mut Room, at: usize, ty: u8, value: &[u8]) -> usize {
-    match diag_values::decode_child_ipv6_addresses(value, 0) {
+    match diag_rows::decode_child_ipv6_addresses(value, 0) {
         ReadAddressList::Value(list) => {
             let head = put_head(text, at, ty);
             put_list(text, head, value, list)
@@ -184,7 +184,7 @@ fn put_each_address(text: &mut Room, at: usize, value: &[u8]) -> usize {
     let mut next = at;
     let mut k = 0;
     while k < n {
-        next = put_hex(text, next, diag_values::address(value, k));
+        next = put_hex(text, next, diag_rows::address(value, k));
         k += 1;
     }
     next
@@ -228,7 +228,7 @@ pub(crate) fn put_bare(text: &mut Room, at: usize, ty: u8, value: &[u8]) -> usiz
     match ty {
         0 | 17 | 18 | 23 => put_bytes(text, at, ty, value),
         4 => put_bare_connectivity(text, at, ty, diag_values::decode_connectivity(value, 0)),
-        5 => put_bare_route64(text, at, ty, diag_values::decode_route64(value, 0)),
+        5 => put_bare_route64(text, at, ty, diag_rows::decode_route64(value, 0)),
         8 => put_addresses(text, at, ty, value),
         16 => put_children(text, at, ty, value),
         30 => put_bare_list(text, at, ty, value),

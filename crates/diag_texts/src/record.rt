@@ -113,7 +113,7 @@ fn put_counters_field(text: &mut Room, at: usize, field: OptMacCounters) -> usiz
 }
 
 fn put_routes(text: &mut Room, at: usize, value: &[u8]) -> usize {
-    let read = diag_values::decode_route64(value, 0);
+    let read = diag_rows::decode_route64(value, 0);
     let route = read.route;
     let name = put_name(text, at, diag_values::ROUTE64);
     let head = put_route64_head(text, name, route);

@@ -1,13 +1,13 @@
 // The text of each kind of row, and of rows parted by `/`.
 use crate::fields::digit;
 use crate::fields::put_mode;
-use diag_values::ChildIpv6AddrInfo;
-use diag_values::ChildTableEntry;
+use diag_rows::ChildIpv6AddrInfo;
+use diag_rows::ChildTableEntry;
+use diag_rows::ReadAddressList;
+use diag_rows::ReadChild;
+use diag_rows::ReadRoute;
+use diag_rows::RouteDataEntry;
 use diag_values::ModeData;
-use diag_values::ReadAddressList;
-use diag_values::ReadChild;
-use diag_values::ReadRoute;
-use diag_values::RouteDataEntry;
 use network_data::BorderRouterEntry;
 use network_data::HasRouteEntry;
 use network_data::OptContext;

@@ -14,7 +14,7 @@ use Rattle.refusal.specs.Number.{refusalAnswer}
 use Rattle.refusal.specs.declared.Refusal.{Refusal}
 use Rattle.laws.proofs.Parts.{length-part}
 use Rattle.laws.proofs.Tests.{by-test, pick-all}
-use Rattle.diag_values.specs.Routes.{routesFit}
+use Rattle.diag_values.specs.Mask.{routesFit}
 use Rattle.diag_values.specs.Rule.{keepsRule, valueOf}
 use Rattle.diag_values.specs.Answers.{judged}
 

@@ -5,9 +5,7 @@ use Prim.Native.Nat.{ℕ}
 use Rattle.refusal.specs.Answer.{Answer, given, absent, refused}
 use Rattle.refusal.proofs.Papers.{Tells, tells, refusal-back, codeOf}
 use Rattle.diag_values.specs.Values.{ConnectivityValue}
-use Rattle.diag_values.specs.Routes.{RouteRead}
-use Rattle.diag_values.specs.Rows.{Part}
-use Rattle.diag_values.specs.Answers.{judgedAnswer, optAnswer8, optAnswer16, answer8, modeAnswer, connectivityPaper, connectivityAnswer, leaderAnswer, countersAnswer, addressListAnswer, routeRead, routeAnswer, childAnswer, partAnswer}
+use Rattle.diag_values.specs.Answers.{judgedAnswer, optAnswer8, optAnswer16, answer8, modeAnswer, connectivityPaper, connectivityAnswer, leaderAnswer, countersAnswer}
 use Rattle.diag_values.specs.declared.Judged.{Judged}
 use Rattle.diag_values.specs.declared.Judged.the-variants as j
 use Rattle.diag_values.specs.declared.OptU8.{OptU8}
@@ -20,15 +18,11 @@ use Rattle.diag_values.specs.declared.Connectivity.{Connectivity}
 use Rattle.diag_values.specs.declared.ReadConnectivity.the-variants as y
 use Rattle.diag_values.specs.declared.ReadLeaderData.the-variants as l
 use Rattle.diag_values.specs.declared.ReadMacCounters.the-variants as k
-use Rattle.diag_values.specs.declared.ReadAddressList.the-variants as a
-use Rattle.diag_values.specs.declared.ReadRoute.the-variants as r
-use Rattle.diag_values.specs.declared.ReadChild.the-variants as c
-use Rattle.diag_values.specs.declared.ReadPart.the-variants as p
 
-abbrev judgedOf : Answer (Unit {0}) → Judged
+abbrev pub judgedOf : Answer (Unit {0}) → Judged
 judgedOf x = codeOf (λ (u : Unit {0}). j.Kept) j.Kept j.Refused x
 
-judged-back : (x : Judged) → judgedOf (judgedAnswer x) ≡ x
+pub judged-back : (x : Judged) → judgedOf (judgedAnswer x) ≡ x
 judged-back j.Kept = refl
 judged-back (j.Refused x) = ap j.Refused (refusal-back x)
 
@@ -46,26 +40,6 @@ leader-tells = tells leaderAnswer (codeOf l.Value l.Absent l.Refused) (elim [ l.
 
 pub counters-tells : Tells countersAnswer
 counters-tells = tells countersAnswer (codeOf k.Value k.Absent k.Refused) (elim [ k.Value x ↦ refl | k.Absent ↦ refl | k.Refused x ↦ ap k.Refused (refusal-back x) ])
-
-pub address-list-tells : Tells addressListAnswer
-address-list-tells = tells addressListAnswer (codeOf a.Value a.Absent a.Refused) (elim [ a.Value x ↦ refl | a.Absent ↦ refl | a.Refused x ↦ ap a.Refused (refusal-back x) ])
-
-pub route-row-tells : Tells routeAnswer
-route-row-tells = tells routeAnswer (codeOf r.Value r.Absent r.Refused) (elim [ r.Value x ↦ refl | r.Absent ↦ refl | r.Refused x ↦ ap r.Refused (refusal-back x) ])
-
-pub child-tells : Tells childAnswer
-child-tells = tells childAnswer (codeOf c.Value c.Absent c.Refused) (elim [ c.Value x ↦ refl | c.Absent ↦ refl | c.Refused x ↦ ap c.Refused (refusal-back x) ])
-
-pub part-tells : Tells partAnswer
-part-tells =
-    tells partAnswer (codeOf (λ (x : Part). p.Part (x .start) (x .len)) p.Absent p.Refused)
-    (elim [ p.Part s n ↦ refl | p.Absent ↦ refl | p.Refused x ↦ ap p.Refused (refusal-back x) ])
-
--- the answer and the Route64 beside it
-pub route64-tells : Tells routeRead
-route64-tells =
-    tells routeRead (λ (x : RouteRead). record { answer = judgedOf (x .answer); route = x .route })
-    (λ x. ap (λ (u : Judged). record { answer = u; route = x .route }) (judged-back (x .answer)))
 
 -- ---- Connectivity, whose late fields may be missing
 

@@ -5,8 +5,6 @@ use mathlib.Core.List.{List}
 use Rattle.refusal.specs.Answer.{Answer, given, absent, onGiven}
 use Rattle.refusal.specs.Number.{refusalAnswer}
 use Rattle.diag_values.specs.Values.{ConnectivityValue}
-use Rattle.diag_values.specs.Routes.{RouteRead, routed}
-use Rattle.diag_values.specs.Rows.{Part, part}
 use Rattle.diag_values.specs.declared.Judged.{Judged}
 use Rattle.diag_values.specs.declared.Judged.the-variants as j
 use Rattle.diag_values.specs.declared.OptU8.{OptU8}
@@ -27,18 +25,6 @@ use Rattle.diag_values.specs.declared.ReadLeaderData.the-variants as l
 use Rattle.diag_values.specs.declared.MacCounters.{MacCounters}
 use Rattle.diag_values.specs.declared.ReadMacCounters.{ReadMacCounters}
 use Rattle.diag_values.specs.declared.ReadMacCounters.the-variants as k
-use Rattle.diag_values.specs.declared.ChildIpv6AddrInfo.{ChildIpv6AddrInfo}
-use Rattle.diag_values.specs.declared.ReadAddressList.{ReadAddressList}
-use Rattle.diag_values.specs.declared.ReadAddressList.the-variants as a
-use Rattle.diag_values.specs.declared.ReadRoute64.{ReadRoute64}
-use Rattle.diag_values.specs.declared.RouteDataEntry.{RouteDataEntry}
-use Rattle.diag_values.specs.declared.ReadRoute.{ReadRoute}
-use Rattle.diag_values.specs.declared.ReadRoute.the-variants as r
-use Rattle.diag_values.specs.declared.ChildTableEntry.{ChildTableEntry}
-use Rattle.diag_values.specs.declared.ReadChild.{ReadChild}
-use Rattle.diag_values.specs.declared.ReadChild.the-variants as c
-use Rattle.diag_values.specs.declared.ReadPart.{ReadPart}
-use Rattle.diag_values.specs.declared.ReadPart.the-variants as p
 
 -- a value that may be read, with nothing said of what it is
 abbrev pub judgedAnswer : Judged → Answer (Unit {0})
@@ -94,26 +80,3 @@ abbrev pub countersAnswer : ReadMacCounters → Answer MacCounters
 countersAnswer (k.Value x) = given x
 countersAnswer k.Absent = absent
 countersAnswer (k.Refused x) = refusalAnswer x
-
-abbrev pub addressListAnswer : ReadAddressList → Answer ChildIpv6AddrInfo
-addressListAnswer (a.Value x) = given x
-addressListAnswer a.Absent = absent
-addressListAnswer (a.Refused x) = refusalAnswer x
-
-abbrev pub routeRead : ReadRoute64 → RouteRead
-routeRead x = routed (judgedAnswer (x .answer)) (x .route)
-
-abbrev pub routeAnswer : ReadRoute → Answer RouteDataEntry
-routeAnswer (r.Value x) = given x
-routeAnswer r.Absent = absent
-routeAnswer (r.Refused x) = refusalAnswer x
-
-abbrev pub childAnswer : ReadChild → Answer ChildTableEntry
-childAnswer (c.Value x) = given x
-childAnswer c.Absent = absent
-childAnswer (c.Refused x) = refusalAnswer x
-
-abbrev pub partAnswer : ReadPart → Answer Part
-partAnswer (p.Part a n) = given (part a n)
-partAnswer p.Absent = absent
-partAnswer (p.Refused x) = refusalAnswer x

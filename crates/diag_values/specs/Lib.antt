@@ -1,5 +1,4 @@
 pub mod Values
-pub mod Routes
+pub mod Mask
 pub mod Rule
-pub mod Rows
 pub mod Answers

@@ -1,7 +1,7 @@
 -- What the bytes of a diagnostic value say, for the layouts that are a number or a record (document 01, "Diagnostic values"). They are total: whether
 -- a value has the length of its layout is asked first, by specs/Rule.
 -- Assumes nothing.
-use Prim.Native.Nat.{ℕ, _-_, _/_, _%_}
+use Prim.Native.Nat.{ℕ, _/_, _%_}
 use mathlib.Core.List.{List}
 use lib.ListN.{length, take, drop, getD}
 use lib.IntN.{ℤ, pos, negsuc}
@@ -11,7 +11,6 @@ use Rattle.wire.specs.Be.{be}
 use Rattle.diag_values.specs.declared.ModeData.{ModeData}
 use Rattle.diag_values.specs.declared.LeaderData.{LeaderData}
 use Rattle.diag_values.specs.declared.MacCounters.{MacCounters}
-use Rattle.diag_values.specs.declared.ChildIpv6AddrInfo.{ChildIpv6AddrInfo}
 
 -- byte k of a value, from 0 on
 abbrev pub byteAt : List ℕ → ℕ → ℕ
@@ -86,7 +85,3 @@ countersOf v = record {
   «if_out_broadcast_pkts» = numberAt 4 28 v;
   «if_out_discards» = numberAt 4 32 v;
 }
-
--- "30: RLOC16, then the same" (whole addresses, from byte 2 to the end); "child ID is RLOC16 modulo 512"
-abbrev pub addressListOf : List ℕ → ChildIpv6AddrInfo
-addressListOf v = record { rloc16 = numberAt 2 0 v; «child_id» = numberAt 2 0 v % 512; start = 2; len = length v - 2 }

@@ -10,7 +10,6 @@ use borrow.Author.Tests.{ne-eqb}
 use Rattle.refusal.specs.Answer.{pick, Answer, given, absent, refused, onGiven}
 use Rattle.tlv.specs.Entries.{Entry}
 use Rattle.tlv.specs.Last.{lastOf, valueOr}
-use Rattle.diag_values.specs.Values.{addressListOf}
 use Rattle.refusal.specs.Numbered.{nth}
 use Rattle.diag_values.specs.Rows.{listed, childRows}
 use Rattle.diag_entries.specs.Parts.{last, allOf}

@@ -17,7 +17,6 @@ use Rattle.tlv.specs.Limits.{framed, count}
 use Rattle.tlv.proofs.Tally.{Only, only, counted-short}
 use Rattle.tlv.specs.Last.{lastOf, lastEntry, valueOr, lastValue}
 use Rattle.diag_values.specs.Rule.{keepsRule, valueOf}
-use Rattle.diag_values.specs.Values.{addressListOf}
 use Rattle.refusal.specs.Numbered.{nth}
 use Rattle.diag_values.specs.Rows.{childAt, childRows}
 use Rattle.diag_values.specs.declared.ChildTableEntry.{ChildTableEntry}

@@ -8,7 +8,7 @@ use lib.ListN.{length, getD, drop}
 use Rattle.refusal.specs.Answer.{given, absent, onGiven}
 use Rattle.refusal.specs.Every.{Every}
 use Rattle.refusal.specs.Numbered.{nth}
-use Rattle.diag_values.specs.Rows.{listed}
+use Rattle.diag_rows.specs.Rows.{listed}
 
 pub listed-length : {A : Type 0} (f : ℕ → A) (n : ℕ) → length (listed f n) ≡ n
 unfolding listed

@@ -8,7 +8,6 @@ use lib.Dec.{eqb}
 use Rattle.refusal.specs.Answer.{pick, Answer, given, absent, refused, thenDo, onGiven}
 use Rattle.tlv.specs.Entries.{Entry}
 use Rattle.diag_values.specs.Rule.{valueOf}
-use Rattle.diag_values.specs.Values.{addressListOf}
 use Rattle.refusal.specs.Numbered.{nth}
 use Rattle.diag_values.specs.Rows.{listed, childRows}
 use Rattle.diag_values.specs.declared.ChildTableEntry.{ChildTableEntry}

@@ -1,6 +1,6 @@
 // Rows of a payload's child table, paired with its address lists by child ID.
-use diag_values::ReadAddressList;
-use diag_values::ReadChild;
+use diag_rows::ReadAddressList;
+use diag_rows::ReadChild;
 use refusal::Fault;
 use refusal::Refusal;
 use tlv::Counted;
@@ -77,7 +77,7 @@ impl Pairing {
 fn row_id(table: &[u8], k: usize) -> usize
     ensures { λ r. ⌜ (r ≡ rowIdAt (now (table .entry)) k) × (r < 512) ⌝ }
 {
-    match diag_values::child_row(table, k) {
+    match diag_rows::child_row(table, k) {
         ReadChild::Value(row) => row.child_id as usize,
         ReadChild::Absent => 0,
         ReadChild::Refused(_) => 0,
@@ -88,7 +88,7 @@ fn row_id(table: &[u8], k: usize) -> usize
 fn list_id(value: &[u8]) -> usize
     ensures { λ r. ⌜ (r ≡ listIdOf (now (value .entry))) × (r < 512) ⌝ }
 {
-    match diag_values::decode_child_ipv6_addresses(value, 0) {
+    match diag_rows::decode_child_ipv6_addresses(value, 0) {
         ReadAddressList::Value(list) => list.child_id as usize,
         ReadAddressList::Absent => 0,
         ReadAddressList::Refused(_) => 0,

@@ -5,10 +5,9 @@ use mathlib.Core.List.{List, [], _∷_}
 use lib.ListN.{length, getD, take, drop}
 use Rattle.refusal.specs.Answer.{Answer, given, absent, refused, thenDo, onGiven}
 use Rattle.tlv.specs.Entries.{Entry, framing}
-use Rattle.diag_values.specs.Values.{addressListOf}
-use Rattle.diag_values.specs.Routes.{routeRow, routeOf, laidOut}
+use Rattle.diag_rows.specs.Routes.{routeRow, routeOf, laidOut}
 use Rattle.refusal.specs.Numbered.{nth}
-use Rattle.diag_values.specs.Rows.{Part, childRows, addresses, orEmpty}
+use Rattle.diag_rows.specs.Rows.{Part, childRows, addresses, orEmpty, addressListOf}
 use Rattle.diag_values.specs.Rule.{valueOf}
 use Rattle.diag_values.specs.declared.RouteDataEntry.{RouteDataEntry}
 use Rattle.diag_values.specs.declared.Route64.{Route64}

@@ -10,7 +10,7 @@ use mir.Val.{ofZ}
 use Rattle.refusal.specs.Answer.{pick, Answer, given, absent, refused}
 use Rattle.network_data.specs.declared.Counts.{Counts}
 use Rattle.diag_values.specs.Values.{ConnectivityValue}
-use Rattle.diag_values.specs.Rows.{Part}
+use Rattle.diag_rows.specs.Rows.{Part}
 use Rattle.diag_values.specs.declared.ModeData.{ModeData}
 use Rattle.diag_values.specs.declared.LeaderData.{LeaderData}
 use Rattle.diag_values.specs.declared.MacCounters.{MacCounters}

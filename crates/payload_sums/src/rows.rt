@@ -5,11 +5,11 @@ use crate::sums::plus;
 use crate::sums::values_sum;
 use diag::NetDiagData;
 use diag::OptPart;
-use diag_values::ChildTableEntry;
-use diag_values::ReadAddressList;
-use diag_values::ReadChild;
-use diag_values::Route64;
-use diag_values::RouteDataEntry;
+use diag_rows::ChildTableEntry;
+use diag_rows::ReadAddressList;
+use diag_rows::ReadChild;
+use diag_rows::Route64;
+use diag_rows::RouteDataEntry;
 use tlv::Found;
 ghost use mathlib.Core.Path.{_≡_};
 ghost use Rattle.diag.specs.Diag.{decode};
@@ -68,7 +68,7 @@ fn routes_in(payload: &[u8], p: OptPart) -> u64
     match p {
         OptPart::Some { start, len } => {
             let end = start + len;
-            let read = diag_values::decode_route64(&payload[start..end], 0);
+            let read = diag_rows::decode_route64(&payload[start..end], 0);
             let route = read.route;
             route64_sum(route)
         }
@@ -89,7 +89,7 @@ fn child_sum(c: ChildTableEntry) -> u64
 fn child_at(v: &[u8], k: usize) -> u64
     ensures { λ r. ⌜ r ≡ childAt (now (v .entry)) k ⌝ }
 {
-    match diag_values::child_row(v, k) {
+    match diag_rows::child_row(v, k) {
         ReadChild::Value(row) => child_sum(row),
         ReadChild::Absent => 0,
         ReadChild::Refused(_) => 0,
@@ -131,7 +131,7 @@ fn wide(x: u8) -> u64
 fn address_at(v: &[u8], k: usize) -> u64
     ensures { λ r. ⌜ r ≡ addressAt (now (v .entry)) k ⌝ }
 {
-    let a = diag_values::address(v, k);
+    let a = diag_rows::address(v, k);
     if a.len() > 15 {
         return wide(a[15]);
     }
@@ -167,7 +167,7 @@ fn addresses_in(payload: &[u8], p: OptPart) -> u64
 fn list_sum(v: &[u8]) -> u64
     ensures { λ r. ⌜ r ≡ listOf (now (v .entry)) ⌝ }
 {
-    match diag_values::decode_child_ipv6_addresses(v, 0) {
+    match diag_rows::decode_child_ipv6_addresses(v, 0) {
         ReadAddressList::Value(x) => {
             let start = x.start;
             let end = start + x.len;

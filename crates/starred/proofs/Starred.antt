@@ -13,8 +13,9 @@ use Rattle.network_data.specs.Frame as frame
 use Rattle.network_data.specs.Walk as walk
 use Rattle.network_data.specs.Rules as rules
 use Rattle.network_data.specs.Decode as decode
-use Rattle.diag_values.specs.Routes.{assigned, routers, routersOf, routesFit, rowsOf, routeRows}
-use Rattle.diag_values.specs.Rows.{listed, childRows, timeoutSeconds}
+use Rattle.diag_values.specs.Mask.{assigned, routers, routersOf, routesFit}
+use Rattle.diag_rows.specs.Routes.{rowsOf, routeRows}
+use Rattle.diag_rows.specs.Rows.{listed, childRows, timeoutSeconds}
 use Rattle.diag_values.specs.Rule.{keepsRule, valueOf}
 use Rattle.starred.specs.Sheet.{Holds, sheet}
 use Rattle.starred.proofs.Same.{all-hold}

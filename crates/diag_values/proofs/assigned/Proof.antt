@@ -1,10 +1,20 @@
 -- `diag_values::assigned` meets its contract.
 -- Assumes nothing.
-use Rattle.diag_values.specs.Routes.{assigned}
+use lib.ListN.{List·getD-eq-default}
+use Prim.Native.Nat.{ℕ}
+use native.Mathlib.Nat.{zero-div}
+use Rattle.diag_values.specs.Mask.{assigned}
 use mathlib.Core.Path.{refl}
 use borrow.Author.Needs.{needs}
 use Rattle.diag_values.proofs.assigned.Statement.{statement}
 use Rattle.diag_values.proofs.assigned.Tie as tie
+
+add-if1 : tie.Need-add-if1
+add-if1 c = search needs
+
+returns : tie.Need-returns
+unfolding assigned
+returns c = rw (List·getD-eq-default {A = ℕ} _ 0 (c .if1 .taken)) (simp zero-div)
 
 sub-shift : tie.Need-sub-shift
 sub-shift c = search needs
@@ -21,11 +31,11 @@ shared-slice-read-result c = search needs
 shr-result : tie.Need-shr-result
 shr-result c = search needs
 
-returns : tie.Need-returns
+returns-2 : tie.Need-returns-2
 unfolding assigned
-returns c = refl
+returns-2 c = refl
 
 pub assigned-spec : {M : Type 1} → statement M
 assigned-spec =
     tie.close
-    (tie.spec sub-shift cast-shift add-result shared-slice-read-result shr-result returns)
+    (tie.spec add-if1 returns sub-shift cast-shift add-result shared-slice-read-result shr-result returns-2)

@@ -4,8 +4,8 @@ use mathlib.Core.Path.{_≡_, sym, ap, _∙_}
 use Prim.Native.Nat.{_+_, _-_, _≤_}
 use native.Mathlib.Omega.{arith}
 use lib.ListN.{length}
-use Rattle.diag_values.specs.Routes.{routersOf}
-use Rattle.diag_values.proofs.Routing.{rest, rest-all, rest-hit, rest-miss, rest-end}
+use Rattle.diag_values.specs.Mask.{routersOf}
+use Rattle.diag_values.proofs.Mask.{rest, rest-all, rest-hit, rest-miss, rest-end}
 use borrow.Author.Needs.{needs}
 use Rattle.diag_values.proofs.count_routers.Statement.{statement}
 use Rattle.diag_values.proofs.count_routers.Tie as tie

@@ -2,7 +2,7 @@
 -- Assumes nothing.
 use mathlib.Core.Path.{sym, ap, _∙_}
 use native.Mathlib.Omega.{arith}
-use Rattle.diag_values.specs.Answers.{addressListAnswer}
+use Rattle.diag_rows.specs.Answers.{addressListAnswer}
 use Rattle.pairing.proofs.Ids.{list-id-by, list-id-low}
 use borrow.Author.Needs.{needs}
 use Rattle.pairing.proofs.list_id.Statement.{statement}

@@ -2,7 +2,7 @@
 -- Assumes nothing.
 use mathlib.Core.Path.{sym, ap, _∙_}
 use native.Mathlib.Omega.{arith}
-use Rattle.diag_values.specs.Answers.{childAnswer}
+use Rattle.diag_rows.specs.Answers.{childAnswer}
 use Rattle.pairing.proofs.Ids.{row-id-by, row-id-low}
 use borrow.Author.Needs.{needs}
 use Rattle.pairing.proofs.row_id.Statement.{statement}

@@ -1,0 +1,4 @@
+pub mod Routing
+pub mod Listing
+pub mod Within
+pub mod Papers
