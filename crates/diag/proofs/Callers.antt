@@ -10,7 +10,7 @@ use Rattle.refusal.specs.Answer.{Answer, given, absent, refused, onGiven}
 use Rattle.refusal.specs.Every.{Every}
 use Rattle.tlv.specs.Entries.{Entry, framing}
 use Rattle.tlv.proofs.Walks.{Lies}
-use Rattle.diag_values.specs.Rows.{part}
+use Rattle.diag_rows.specs.Rows.{part}
 use Rattle.diag_entries.specs.Parts.{last, Said, said, lastSays, lastPart}
 use Rattle.diag_entries.specs.Checked.{checked}
 use Rattle.diag_entries.specs.Answers.{saidAt}

@@ -9,12 +9,12 @@ use Rattle.tlv.specs.Entries.{Entry}
 use Rattle.network_data.specs.Decode.{Prefix, contents, countsOf}
 use Rattle.network_data.specs.declared.Counts.{Counts}
 use Rattle.diag_values.specs.Values.{byteAt, modeValue, ConnectivityValue, connectivityOf, leaderOf, countersOf}
-use Rattle.diag_values.specs.Routes.{Route, routeOf}
-use Rattle.diag_values.specs.Rows.{childRows, addresses}
+use Rattle.diag_rows.specs.Routes.{Route, routeOf}
+use Rattle.diag_rows.specs.Rows.{childRows, addresses}
 use Rattle.diag_values.specs.declared.ModeData.{ModeData}
 use Rattle.diag_values.specs.declared.LeaderData.{LeaderData}
 use Rattle.diag_values.specs.declared.MacCounters.{MacCounters}
-use Rattle.diag_values.specs.declared.ChildTableEntry.{ChildTableEntry}
+use Rattle.diag_rows.specs.declared.ChildTableEntry.{ChildTableEntry}
 use Rattle.diag_entries.specs.Parts.{Said, lastSays, lastPart}
 use Rattle.diag_entries.specs.Checked.{checked}
 use Rattle.diag_entries.specs.Lists.{addressLists}

@@ -4,7 +4,7 @@ use mathlib.Core.Path.{refl, ap}
 use mathlib.Core.List.{List}
 use Prim.Native.Nat.{ℕ}
 use Rattle.refusal.proofs.Papers.{Tells, tells, refusal-back, codeOf}
-use Rattle.diag_values.specs.declared.ReadAddressList.the-variants as a
+use Rattle.diag_rows.specs.declared.ReadAddressList.the-variants as a
 use Rattle.diag_entries.specs.Lists.{AddressList}
 use Rattle.diag_entries.specs.Answers.{childListAnswer}
 

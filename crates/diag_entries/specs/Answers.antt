@@ -5,9 +5,9 @@ use mathlib.Core.List.{List}
 use lib.ListN.{take, drop}
 use Rattle.refusal.specs.Answer.{Answer, given, absent}
 use Rattle.refusal.specs.Number.{refusalAnswer}
-use Rattle.diag_values.specs.Rows.{Part, part, addresses}
-use Rattle.diag_values.specs.declared.ReadAddressList.{ReadAddressList}
-use Rattle.diag_values.specs.declared.ReadAddressList.the-variants as a
+use Rattle.diag_rows.specs.Rows.{Part, part, addresses}
+use Rattle.diag_rows.specs.declared.ReadAddressList.{ReadAddressList}
+use Rattle.diag_rows.specs.declared.ReadAddressList.the-variants as a
 use Rattle.diag_entries.specs.Parts.{Said}
 use Rattle.diag_entries.specs.Lists.{AddressList}
 

@@ -5,10 +5,10 @@ use mathlib.Core.List.{List, map}
 use lib.ListN.{drop}
 use Rattle.refusal.specs.Answer.{Answer, thenDo}
 use Rattle.tlv.specs.Entries.{Entry}
-use Rattle.diag_values.specs.Values.{addressListOf}
+use Rattle.diag_rows.specs.Rows.{addressListOf}
 use Rattle.refusal.specs.Numbered.{nth}
-use Rattle.diag_values.specs.Rows.{addresses}
-use Rattle.diag_values.specs.declared.ChildIpv6AddrInfo.{ChildIpv6AddrInfo}
+use Rattle.diag_rows.specs.Rows.{addresses}
+use Rattle.diag_rows.specs.declared.ChildIpv6AddrInfo.{ChildIpv6AddrInfo}
 use Rattle.diag_entries.specs.Parts.{allOf, Said}
 use Rattle.diag_entries.specs.Checked.{checked}
 

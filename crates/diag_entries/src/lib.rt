@@ -1,7 +1,7 @@
 // The entries of a diagnostic payload (decode.rs): that each of them decodes, and the address lists (type 30) among them.
-use diag_values::ChildIpv6AddrInfo;
+use diag_rows::ChildIpv6AddrInfo;
+use diag_rows::ReadAddressList;
 use diag_values::Judged;
-use diag_values::ReadAddressList;
 use network_data::Checked;
 use tlv::Counted;
 use tlv::Found;
@@ -119,7 +119,7 @@ fn list_at(payload: &[u8], place: usize, start: usize, len: usize) -> ReadAddres
     requires { ⌜ start + len ≤ length (now payload) ⌝ }
     ensures { λ r. ⌜ childListAnswer (now (payload .entry)) r ≡ listAt (now (payload .entry)) place start len ⌝ }
 {
-    match diag_values::decode_child_ipv6_addresses(&payload[start..start + len], place) {
+    match diag_rows::decode_child_ipv6_addresses(&payload[start..start + len], place) {
         ReadAddressList::Value(x) => ReadAddressList::Value(ChildIpv6AddrInfo {
             rloc16: x.rloc16,
             child_id: x.child_id,

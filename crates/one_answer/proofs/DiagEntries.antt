@@ -10,7 +10,7 @@ use Rattle.diag_entries.specs.Checked.{checked}
 use Rattle.diag_entries.specs.Lists.{childList}
 use Rattle.diag_entries.specs.Parts.{allOf, entriesFrom}
 use Rattle.refusal.specs.Numbered.{nth}
-use Rattle.diag_values.specs.declared.ReadAddressList.{ReadAddressList}
+use Rattle.diag_rows.specs.declared.ReadAddressList.{ReadAddressList}
 use Rattle.refusal.specs.Answer.{onGiven}
 use Rattle.tlv.proofs.Papers.{counted-tells, found-tells}
 use Rattle.tlv.specs.Answers.{countedAnswer, foundAnswer}

@@ -18,6 +18,7 @@ pub mod NetworkData
 pub mod NetworkTables
 pub mod NetworkBridge
 pub mod DiagValues
+pub mod DiagRows
 pub mod DiagEntries
 pub mod Diag
 pub mod DiagTables

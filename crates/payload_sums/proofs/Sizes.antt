@@ -4,7 +4,7 @@ use mathlib.Core.Path.{_≡_, refl, ap, _∙_}
 use mathlib.Core.List.{List}
 use Prim.Native.Nat.{ℕ}
 use Rattle.refusal.specs.Answer.{Answer, given, absent, refused, onGiven}
-use Rattle.diag_values.specs.Rows.{Part}
+use Rattle.diag_rows.specs.Rows.{Part}
 use Rattle.diag_entries.specs.Parts.{Said}
 use Rattle.diag_entries.specs.Answers.{saidAt}
 use Rattle.payload_sums.specs.Sums.{plus, orZero, partLen, size}

@@ -9,10 +9,10 @@ use Rattle.diag_rows.specs.Routes.{routeRow, routeOf, laidOut}
 use Rattle.refusal.specs.Numbered.{nth}
 use Rattle.diag_rows.specs.Rows.{Part, childRows, addresses, orEmpty, addressListOf}
 use Rattle.diag_values.specs.Rule.{valueOf}
-use Rattle.diag_values.specs.declared.RouteDataEntry.{RouteDataEntry}
-use Rattle.diag_values.specs.declared.Route64.{Route64}
-use Rattle.diag_values.specs.declared.ChildTableEntry.{ChildTableEntry}
-use Rattle.diag_values.specs.declared.ChildIpv6AddrInfo.{ChildIpv6AddrInfo}
+use Rattle.diag_rows.specs.declared.RouteDataEntry.{RouteDataEntry}
+use Rattle.diag_rows.specs.declared.Route64.{Route64}
+use Rattle.diag_rows.specs.declared.ChildTableEntry.{ChildTableEntry}
+use Rattle.diag_rows.specs.declared.ChildIpv6AddrInfo.{ChildIpv6AddrInfo}
 use Rattle.diag_entries.specs.Parts.{Said, allOf}
 use Rattle.diag.specs.Diag.{Diag}
 use Rattle.diag_entries.specs.Answers.{bytesAt}

@@ -15,7 +15,7 @@ use Rattle.network_data.specs.Rules.{headAt, ended, rules, checkIn, checkHead, 
 use Rattle.network_data.specs.Decode.{prefixes, contents, allRoutes, allBorders, countsOf, decodeNetworkData}
 use Rattle.diag_values.specs.Rule.{keepsRule, valueOf}
 use Rattle.refusal.specs.Numbered.{nth}
-use Rattle.diag_values.specs.Rows.{listed, childRows, addresses}
+use Rattle.diag_rows.specs.Rows.{listed, childRows, addresses}
 use Rattle.diag_entries.specs.Parts.{allOf, Said}
 use Rattle.diag_entries.specs.Checked.{entryValue, decoding, checked}
 use Rattle.diag_entries.specs.Lists.{addressLists, childList}

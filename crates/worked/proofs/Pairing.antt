@@ -11,7 +11,7 @@ use Rattle.tlv.specs.Entries.{valued, first, step, frames, framing}
 use Rattle.tlv.specs.Limits.{limited, framed}
 use Rattle.tlv.specs.Last.{lastOf}
 use Rattle.diag_values.specs.Rule.{keepsRule, valueOf}
-use Rattle.diag_values.specs.Rows.{listed, childRows}
+use Rattle.diag_rows.specs.Rows.{listed, childRows}
 use Rattle.diag_entries.specs.Parts.{allOf}
 use Rattle.diag_entries.specs.Checked.{entryValue, decoding, checked}
 use Rattle.diag_entries.specs.Lists.{addressLists}

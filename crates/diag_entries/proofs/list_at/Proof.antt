@@ -3,7 +3,7 @@
 use mathlib.Core.Path.{sym, ap, _∙_}
 use native.Mathlib.Omega.{arith}
 use native.Mathlib.Nat.{add-sub-cancel-left}
-use Rattle.diag_values.specs.Answers.{addressListAnswer}
+use Rattle.diag_rows.specs.Answers.{addressListAnswer}
 use Rattle.diag_entries.proofs.Lists.{list-read, list-starts, list-other, list-refused}
 use borrow.Author.Needs.{needs}
 use Rattle.diag_entries.proofs.list_at.Statement.{statement}

@@ -1,7 +1,7 @@
 -- `payload_sums::rows::child_at` meets its contract.
 -- Assumes nothing.
 use mathlib.Core.Path.{sym, ap, _∙_}
-use Rattle.diag_values.specs.Answers.{childAnswer}
+use Rattle.diag_rows.specs.Answers.{childAnswer}
 use Rattle.payload_sums.specs.Sums.{orZero}
 use Rattle.payload_sums.specs.Rows.{childSum}
 use borrow.Author.Needs.{needs}

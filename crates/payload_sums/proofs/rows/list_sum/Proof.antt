@@ -3,7 +3,7 @@
 use native.Mathlib.Nat.{add-sub-cancel-left}
 use mathlib.Core.Path.{refl, sym, ap, _∙_}
 use native.Mathlib.Omega.{arith}
-use Rattle.diag_values.specs.Answers.{addressListAnswer}
+use Rattle.diag_rows.specs.Answers.{addressListAnswer}
 use Rattle.payload_sums.specs.Sums.{orZero}
 use Rattle.payload_sums.specs.Rows.{listSum}
 use Rattle.payload_sums.proofs.Sizes.{adds}
