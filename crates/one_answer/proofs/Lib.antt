@@ -14,6 +14,7 @@ pub mod DatasetEdits
 pub mod Changes
 pub mod Delay
 pub mod NetworkData
+pub mod NetworkWalker
 pub mod NetworkTables
 pub mod NetworkBridge
 pub mod DiagValues
