@@ -1,5 +1,4 @@
 pub mod Walks
-pub mod Shifts
 pub mod Passes
 pub mod Counted
 pub mod Anywhere

@@ -8,12 +8,11 @@ use types.Run.{OneOf}
 use denote.Enum.Declared.{tagOf}
 use Prim.Native.Nat.{ℕ, zero, suc, _+_, _-_, _≤_, _<_}
 use native.Mathlib.Omega.{arith}
-use lib.ListN.{length, getD, take, drop, length-drop}
-use lib.Seq.{take-all}
+use lib.ListN.{getD}
 use lib.Dec.{leb, ltb}
 use borrow.Author.Tests.{ltb-false, leb-true, leb-false, le-leb}
 use Rattle.laws.proofs.Tests.{pick-all}
-use Rattle.network_data.specs.Frame.{subIn, after, restOf}
+use Rattle.network_data.specs.Frame.{subIn}
 use Rattle.network_data.specs.Walk.{Walk, clean, short, done, onto, step, walk, walkIn, piece}
 use Rattle.network_data.proofs.SubTlv
 use Rattle.network_data.specs.declared.SubTlv.{SubTlv}
@@ -84,15 +83,3 @@ pub turn-none : (s : List ℕ) (at end : ℕ) (r : SubTlv) → r ≡ subIn s at 
 turn-none s at end End found k = ap (λ (w : Walk). w .items) (turn-end s at end End found refl)
 turn-none s at end Cut found k = ap (λ (w : Walk). w .items) (turn-cut s at end Cut found refl)
 turn-none s at end (Item t a n) found k = ⊎-elim (λ e. absurd (omega arith)) (λ e. absurd (omega arith)) k
-
--- what is left after the first TLV
-module _ (s : List ℕ) (r : SubTlv) (found : r ≡ subIn s 0 (length s)) where
-  pub rest-item : (t a n : ℕ) → r ≡ Item t a n → take (length s - (a + n)) (drop (a + n) s) ≡ restOf s
-  unfolding restOf after
-  rest-item t a n e = take-all (length s - (a + n)) (drop (a + n) s) (simp length-drop (omega arith)) ∙ ap (after s) (sym e ∙ found)
-
-pub rest-none : (s : List ℕ) (r : SubTlv) → r ≡ subIn s 0 (length s) → OneOf (1 ∷ 2 ∷ []) (tagOf SubTlv.the-type r) → [] ≡ restOf s
-unfolding restOf after
-rest-none s End found k = ap (after s) found
-rest-none s Cut found k = ap (after s) found
-rest-none s (Item t a n) found k = ⊎-elim (λ e. absurd (omega arith)) (λ e. absurd (omega arith)) k

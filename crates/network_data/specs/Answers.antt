@@ -8,8 +8,6 @@ use Rattle.network_data.specs.declared.checks.Sum.{Sum}
 use Rattle.network_data.specs.declared.checks.Sum.the-variants as s
 use Rattle.network_data.specs.declared.Checked.{Checked}
 use Rattle.network_data.specs.declared.Checked.the-variants as c
-use Rattle.network_data.specs.declared.TlvCount.{TlvCount}
-use Rattle.network_data.specs.declared.TlvCount.the-variants as t
 
 abbrev pub sumAnswer : Sum → Answer ℕ
 sumAnswer (s.Rows n) = given n
@@ -18,7 +16,3 @@ sumAnswer (s.Refused r) = refusalAnswer r
 abbrev pub checkedAnswer : Checked → Answer Counts
 checkedAnswer (c.Counted n) = given n
 checkedAnswer (c.Refused r) = refusalAnswer r
-
-abbrev pub tlvCountAnswer : TlvCount → Answer ℕ
-tlvCountAnswer (t.Tlvs n) = given n
-tlvCountAnswer (t.Refused r) = refusalAnswer r

@@ -1,8 +1,8 @@
 -- What stands at a place of Network Data: "TLVs of type times 2 plus stable bit, a one-byte length (255 is no marker here), value" (document 01).
 -- Assumes nothing.
 use Prim.Native.Nat.{ℕ, _+_, _-_, _/_}
-use mathlib.Core.List.{List, []}
-use lib.ListN.{length, getD, drop}
+use mathlib.Core.List.{List}
+use lib.ListN.{getD}
 use lib.Dec.{ltb, leb}
 use Rattle.refusal.specs.Answer.{pick}
 use Rattle.network_data.specs.declared.SubTlv.{SubTlv}
@@ -14,13 +14,3 @@ subIn s at end =
     pick (leb end at) End
     (pick (ltb (end - at) 2) Cut
     (pick (leb (getD s (at + 1) 0) (end - (at + 2))) (Item (getD s at 0 / 2) (at + 2) (getD s (at + 1) 0)) Cut))
-
--- what follows that TLV
-unfoldable pub after : List ℕ → SubTlv → List ℕ
-after s End = []
-after s Cut = []
-after s (Item t a n) = drop (a + n) s
-
--- what follows the first TLV of s: "empty after a cut"
-unfoldable pub restOf : List ℕ → List ℕ
-restOf s = after s (subIn s 0 (length s))

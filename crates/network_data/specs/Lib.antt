@@ -1,6 +1,5 @@
 pub mod Frame
 pub mod Walk
-pub mod Walker
 pub mod Rules
 pub mod Decode
 pub mod Answers

@@ -1,23 +1,17 @@
-// Thread Network Data (the values of type 7 in decode.rs): its records, its framing, the check of a value, its walker.
+// Thread Network Data (the values of type 7 in decode.rs): its records, its framing, the check of a value.
 mod checks;
-mod framing;
-mod walker;
 
 use checks::check_items;
 use checks::refuse;
-use framing::rest_of;
-use framing::sub_at;
 use refusal::Fault;
 use refusal::Refusal;
-use walker::count_all;
 ghost use mathlib.Core.Path.{_≡_};
 ghost use lib.ListN.{length, getD};
 ghost use Rattle.refusal.specs.Answer.{onGiven};
-ghost use Rattle.network_data.specs.Frame.{subIn, restOf};
-ghost use Rattle.network_data.specs.Walker.{tlvCount};
+ghost use Rattle.network_data.specs.Frame.{subIn};
 ghost use Rattle.network_data.specs.Rules.{headAt};
 ghost use Rattle.network_data.specs.Decode.{decodeNetworkData, countsOf};
-ghost use Rattle.network_data.specs.Answers.{checkedAnswer, tlvCountAnswer};
+ghost use Rattle.network_data.specs.Answers.{checkedAnswer};
 
 // A value has at most so many prefixes, and over all of them so many rows of each kind.
 pub const MAX_PREFIXES: usize = 64;
@@ -91,12 +85,6 @@ pub enum Checked {
     Refused(Refusal),
 }
 
-// How many TLVs a value has, prefixes or not.
-pub enum TlvCount {
-    Tlvs(usize),
-    Refused(Refusal),
-}
-
 fn byte_at(s: &[u8], at: usize) -> u8
     ensures { λ r. ⌜ r ≡ getD (now (s .entry)) at 0 ⌝ }
 {
@@ -127,6 +115,13 @@ pub fn sub_in(s: &[u8], at: usize, end: usize) -> SubTlv
     SubTlv::Cut
 }
 
+// What stands at a place of s, up to the end of s.
+pub fn sub_at(s: &[u8], at: usize) -> SubTlv
+    ensures { λ r. ⌜ r ≡ subIn (now (s .entry)) at (length (now (s .entry))) ⌝ }
+{
+    sub_in(s, at, s.len())
+}
+
 // Of a prefix whose value stands from start to end.
 pub fn head_at(s: &[u8], start: usize, end: usize) -> Head
     ensures { λ r. ⌜ r ≡ headAt (now (s .entry)) start end ⌝ }
@@ -153,47 +148,4 @@ pub fn check(value: &[u8], place: usize) -> Checked
         return refuse(Fault::TooLarge, 0);
     }
     check_items(value, place)
-}
-
-// The walker: it keeps the bytes still to be read.
-pub struct NetworkDataTlvIter<'a> {
-    pub bytes: &'a [u8],
-}
-
-impl<'a> NetworkDataTlvIter<'a> {
-    pub fn new(bytes: &'a [u8]) -> NetworkDataTlvIter<'a>
-        ensures { λ r. ⌜ r .bytes ≡ bytes .entry ⌝ }
-    {
-        NetworkDataTlvIter { bytes }
-    }
-
-    // The next TLV of the bytes still to be read, or that it is cut short, or that there is none.
-    pub fn item(self) -> SubTlv
-        ensures { λ r. ⌜ r ≡ subIn (now (self .entry .bytes)) 0 (length (now (self .entry .bytes))) ⌝ }
-    {
-        sub_at(self.bytes, 0)
-    }
-
-    // The walker after that: at the bytes behind it, and at none after a cut or the end.
-    pub fn rest(self) -> NetworkDataTlvIter<'a>
-        ensures { λ r. ⌜ now (r .bytes) ≡ restOf (now (self .entry .bytes)) ⌝ }
-    {
-        NetworkDataTlvIter {
-            bytes: rest_of(self.bytes),
-        }
-    }
-}
-
-// How many TLVs a bare value has, whatever is in them. Refusals: 1, then 5 where one of them is cut short.
-pub fn count_tlvs(value: &[u8]) -> TlvCount
-    ensures { λ r. ⌜ tlvCountAnswer r ≡ tlvCount (now (value .entry)) ⌝ }
-{
-    if value.len() > refusal::MAX_BYTES {
-        return TlvCount::Refused(Refusal {
-            fault: Fault::TooLarge,
-            place: 0,
-            input: 0,
-        });
-    }
-    count_all(value)
 }

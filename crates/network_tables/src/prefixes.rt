@@ -3,24 +3,17 @@ use network_data::OptContext;
 use network_data::PrefixEntry;
 use network_data::SixLowPanContext;
 use network_data::SubTlv;
+use network_data::sub_at;
 use network_data::sub_in;
 ghost use mathlib.Core.Path.{_≡_};
 ghost use Prim.Native.Nat.{_+_, _≤_, _<_};
 ghost use lib.ListN.{length, take, drop};
 ghost use Rattle.tables.specs.Tab.{steps};
 ghost use Rattle.refusal.specs.Answer.{absent};
-ghost use Rattle.network_data.specs.Frame.{subIn};
 ghost use Rattle.network_data.specs.Walk.{walkIn};
 ghost use Rattle.network_data.specs.Decode.{contextAt, placesIn, lastContext, prefixAt, padded, entryOf};
 ghost use Rattle.network_tables.specs.Answers.{contextAnswer};
 ghost use Rattle.network_tables.specs.Cursor.{spanOf, Whole, SpanHere, SpansTo, entryAt, spanEnd};
-
-// What stands at a place of s.
-pub(crate) fn sub_at(s: &[u8], at: usize) -> SubTlv
-    ensures { λ r. ⌜ r ≡ subIn (now (s .entry)) at (length (now (s .entry))) ⌝ }
-{
-    sub_in(s, at, s.len())
-}
 
 // Where a prefix's value starts and ends.
 pub(crate) struct Span {

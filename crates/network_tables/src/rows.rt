@@ -1,10 +1,10 @@
 // A cursor on the rows of one kind: it goes through the inner TLVs of a type, prefix after prefix.
-use crate::prefixes::sub_at;
 use network_data::BorderRouterEntry;
 use network_data::HasRouteEntry;
 use network_data::Head;
 use network_data::SubTlv;
 use network_data::head_at;
+use network_data::sub_at;
 use network_data::sub_in;
 ghost use mathlib.Core.Path.{_≡_};
 ghost use Prim.Native.Nat.{_≤_, _<_};

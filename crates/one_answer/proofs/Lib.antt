@@ -15,6 +15,7 @@ pub mod ChangeLists
 pub mod Changes
 pub mod Delay
 pub mod NetworkData
+pub mod NetworkWalker
 pub mod NetworkTables
 pub mod NetworkBridge
 pub mod DiagValues

@@ -4,16 +4,14 @@ use mathlib.Core.List.{List}
 use mathlib.Core.Path.{_≡_}
 use Prim.Native.Nat.{ℕ}
 use lib.ListN.{length}
-use Rattle.network_data.proofs.Papers.{checked-tells, tlv-count-tells}
-use Rattle.network_data.specs.Answers.{checkedAnswer, tlvCountAnswer}
+use Rattle.network_data.proofs.Papers.{checked-tells}
+use Rattle.network_data.specs.Answers.{checkedAnswer}
 use Rattle.network_data.specs.Decode.{countsOf, decodeNetworkData}
-use Rattle.network_data.specs.Frame.{restOf, subIn}
+use Rattle.network_data.specs.Frame.{subIn}
 use Rattle.network_data.specs.Rules.{headAt}
-use Rattle.network_data.specs.Walker.{tlvCount}
 use Rattle.network_data.specs.declared.Checked.{Checked}
 use Rattle.network_data.specs.declared.Head.{Head}
 use Rattle.network_data.specs.declared.SubTlv.{SubTlv}
-use Rattle.network_data.specs.declared.TlvCount.{TlvCount}
 use Rattle.refusal.specs.Answer.{onGiven}
 use Rattle.one_answer.specs.One.{One}
 use Rattle.one_answer.proofs.General.{one, one-itself}
@@ -22,6 +20,10 @@ use Rattle.one_answer.proofs.General.{one, one-itself}
 pub sub-in : (s : List ℕ) (at end : ℕ) → One (λ (r : SubTlv). r ≡ subIn s at end)
 sub-in s at end = one-itself _
 
+-- network_data::sub_at
+pub sub-at : (s : List ℕ) (at : ℕ) → One (λ (r : SubTlv). r ≡ subIn s at (length s))
+sub-at s at = one-itself _
+
 -- network_data::head_at
 pub head-at : (s : List ℕ) (start end : ℕ) → One (λ (r : Head). r ≡ headAt s start end)
 head-at s start end = one-itself _
@@ -29,19 +31,3 @@ head-at s start end = one-itself _
 -- network_data::check
 pub check : (value : List ℕ) (place : ℕ) → One (λ (r : Checked). checkedAnswer r ≡ onGiven countsOf (decodeNetworkData place value))
 check value place = one checkedAnswer checked-tells _
-
--- network_data::count_tlvs
-pub count-tlvs : (value : List ℕ) → One (λ (r : TlvCount). tlvCountAnswer r ≡ tlvCount value)
-count-tlvs value = one tlvCountAnswer tlv-count-tells _
-
--- network_data::NetworkDataTlvIter::new
-pub new : (bytes : List ℕ) → One (λ (r : List ℕ). r ≡ bytes)
-new bytes = one-itself _
-
--- network_data::NetworkDataTlvIter::item
-pub item : (self : List ℕ) → One (λ (r : SubTlv). r ≡ subIn self 0 (length self))
-item self = one-itself _
-
--- network_data::NetworkDataTlvIter::rest
-pub rest : (self : List ℕ) → One (λ (r : List ℕ). r ≡ restOf self)
-rest self = one-itself _

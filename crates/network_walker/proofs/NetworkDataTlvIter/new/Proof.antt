@@ -1,4 +1,4 @@
--- `network_data::NetworkDataTlvIter::new` meets its contract: a walk of its MIR, by hand. The struct is made of the slice passed.
+-- `network_walker::NetworkDataTlvIter::new` meets its contract: a walk of its MIR, by hand. The struct is made of the slice passed.
 -- Assumes nothing.
 use mathlib.Core.Path.{refl}
 use Prim.Native.Nat.{ℕ}
@@ -32,13 +32,13 @@ use denote.Triple.Spec.{Meets, tripleOf}
 use denote.Triple.Table.{entered}
 use denote.Triple.Walked.{says, Stays, stay-none-slice, walkOf, goes-none-slice, Walks, ends-at, walked, walk-meets}
 use denote.Exit.{yes}
-use Rattle.network_data.specs.declared.NetworkDataTlvIter.{NetworkDataTlvIter}
-use Rattle.network_data.proofs.NetworkDataTlvIter as T
-use Rattle.network_data.proofs.NetworkDataTlvIter.Laws as T′
-use Rattle.network_data.proofs.NetworkDataTlvIter.new.Key.{name as #key}
-use Rattle.network_data.proofs.NetworkDataTlvIter.new as new
-use Rattle.network_data.proofs.NetworkDataTlvIter.new.Statement as stated
-use Rattle.network_data.proofs.NetworkDataTlvIter.new.Code as code
+use Rattle.network_walker.specs.declared.NetworkDataTlvIter.{NetworkDataTlvIter}
+use Rattle.network_walker.proofs.NetworkDataTlvIter as T
+use Rattle.network_walker.proofs.NetworkDataTlvIter.Laws as T′
+use Rattle.network_walker.proofs.NetworkDataTlvIter.new.Key.{name as #key}
+use Rattle.network_walker.proofs.NetworkDataTlvIter.new as new
+use Rattle.network_walker.proofs.NetworkDataTlvIter.new.Statement as stated
+use Rattle.network_walker.proofs.NetworkDataTlvIter.new.Code as code
 
 abbrev stayed : Stays (new.ended .signature .params) (new.ended .kept)
 stayed = (stay-none-slice (0 ∷ []) tt (plain (λ _. u8)) yes, tt)

@@ -1,15 +1,25 @@
 -- What the walker comes by. Document 01: "The sub-TLV walker keeps the bytes still to be read, as `NetworkDataTlvIter` does; empty after a cut."
 -- Assumes nothing.
-use Prim.Native.Nat.{ℕ, zero, suc}
+use Prim.Native.Nat.{ℕ, zero, suc, _+_}
 use mathlib.Core.List.{List, [], _∷_, map}
 use lib.ListN.{length, take, drop}
 use lib.Dec.{ltb}
 use Rattle.refusal.specs.Sizes.{mostBytes}
 use Rattle.refusal.specs.Answer.{pick, Answer, given, refused}
-use Rattle.network_data.specs.Frame.{subIn, restOf}
+use Rattle.network_data.specs.Frame.{subIn}
 use Rattle.network_data.specs.Walk.{Piece, Stop, clean, short, Walk, walkIn}
 use Rattle.network_data.specs.declared.SubTlv.{SubTlv}
 use Rattle.network_data.specs.declared.SubTlv.the-variants.{Item, Cut, End}
+
+-- what follows the TLV that stands there
+unfoldable pub after : List ℕ → SubTlv → List ℕ
+after s End = []
+after s Cut = []
+after s (Item t a n) = drop (a + n) s
+
+-- what follows the first TLV of s: "empty after a cut"
+unfoldable pub restOf : List ℕ → List ℕ
+restOf s = after s (subIn s 0 (length s))
 
 -- a TLV without its place
 pub record Tlv : Type 0 where

@@ -1,9 +1,10 @@
--- `network_data::framing::rest_of` meets its contract: what follows the first TLV, or no bytes. Assumes nothing.
+-- `network_walker::framing::rest_of` meets its contract: what follows the first TLV, or no bytes. Assumes nothing.
 use borrow.Author.Needs.{needs}
 use native.Mathlib.Omega.{arith}
-use Rattle.network_data.proofs.Walks.{turn-inside, rest-item, rest-none}
-use Rattle.network_data.proofs.framing.rest_of.Statement.{statement}
-use Rattle.network_data.proofs.framing.rest_of.Tie as tie
+use Rattle.network_data.proofs.Walks.{turn-inside}
+use Rattle.network_walker.proofs.Rests.{rest-item, rest-none}
+use Rattle.network_walker.proofs.framing.rest_of.Statement.{statement}
+use Rattle.network_walker.proofs.framing.rest_of.Tie as tie
 
 sub-at-requires : tie.Need-sub-at-requires
 sub-at-requires c κs = search needs

@@ -1,4 +1,4 @@
--- `network_data::walker::count_all` meets its contract. The invariant: the n that are counted and those in the bytes still to be read are all,
+-- `network_walker::walker::count_all` meets its contract. The invariant: the n that are counted and those in the bytes still to be read are all,
 -- and as many bytes are read. The measure is what is still to be read. Assumes nothing.
 use mathlib.Core.Path.{_≡_, _∙_}
 use Prim.Native.Nat.{_+_, _≤_}
@@ -6,11 +6,11 @@ use native.Mathlib.Nat.{zero-add}
 use native.Mathlib.Omega.{arith}
 use lib.ListN.{length}
 use borrow.Author.Needs.{needs}
 use Rattle.network_data.specs.Walk.{walkIn}
-use Rattle.network_data.specs.Walker.{tallied, tlvsOf}
-use Rattle.network_data.proofs.Shifts.{count-end, count-cut, count-item, count-less}
-use Rattle.network_data.proofs.walker.count_all.Statement.{statement}
-use Rattle.network_data.proofs.walker.count_all.Tie as tie
+use Rattle.network_walker.specs.Walker.{tallied, tlvsOf}
+use Rattle.network_walker.proofs.Shifts.{count-end, count-cut, count-item, count-less}
+use Rattle.network_walker.proofs.walker.count_all.Statement.{statement}
+use Rattle.network_walker.proofs.walker.count_all.Tie as tie
 
 abbrev Inv-loop : tie.InvT-loop
 Inv-loop value rest₀ n₀ rest n =

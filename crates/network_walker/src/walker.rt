@@ -1,15 +1,15 @@
 // The walker's steps for callers that have a plain slice, and the count of a value's TLVs, which is made of them.
 use crate::NetworkDataTlvIter;
-use crate::SubTlv;
 use crate::TlvCount;
+use network_data::SubTlv;
 use refusal::Fault;
 use refusal::Refusal;
 ghost use mathlib.Core.Path.{_≡_};
 ghost use lib.ListN.{length};
-ghost use Rattle.network_data.specs.Frame.{subIn, restOf};
+ghost use Rattle.network_data.specs.Frame.{subIn};
 ghost use Rattle.network_data.specs.Walk.{walkIn};
-ghost use Rattle.network_data.specs.Walker.{tlvsOf};
-ghost use Rattle.network_data.specs.Answers.{tlvCountAnswer};
+ghost use Rattle.network_walker.specs.Walker.{restOf, tlvsOf};
+ghost use Rattle.network_walker.specs.Answers.{tlvCountAnswer};
 
 // What the walker finds first.
 pub(crate) fn first_tlv(bytes: &[u8]) -> SubTlv

@@ -1,4 +1,4 @@
--- `network_data::walker::first_tlv` meets its contract: a walk of its MIR, by hand. The walker that `new` returns is held in a local and passed to `item`.
+-- `network_walker::walker::first_tlv` meets its contract: a walk of its MIR, by hand. The walker that `new` returns is held in a local and passed to `item`.
 -- The machine value that `new` returns is stored and passed on as it is. In a local of a body MIR erases the lifetime of the struct's type, so the value is shown to have the type at `erased`: what the struct owns does not say the lifetime's name.
 -- Assumes nothing.
 use mathlib.Core.Path.{_≡_, refl, ap, _∙_}
@@ -37,25 +37,25 @@ use denote.Triple.Table.{entered, cited}
 use denote.Triple.Walked.{says, Stays, stay-none-slice, walkOf, goes-none-slice, Walks, ends-at, walked, walk-meets}
 use denote.Exit.{yes}
 use denote.Triple.Clauses.{ensured, lasts}
 use Rattle.network_data.specs.Frame.{subIn}
-use Rattle.network_data.specs.declared.NetworkDataTlvIter.{NetworkDataTlvIter}
+use Rattle.network_walker.specs.declared.NetworkDataTlvIter.{NetworkDataTlvIter}
 use Rattle.network_data.specs.declared.SubTlv.{SubTlv}
-use Rattle.network_data.proofs.NetworkDataTlvIter as T
-use Rattle.network_data.proofs.NetworkDataTlvIter.Laws as T′
+use Rattle.network_walker.proofs.NetworkDataTlvIter as T
+use Rattle.network_walker.proofs.NetworkDataTlvIter.Laws as T′
 use Rattle.network_data.proofs.SubTlv as S
 use Rattle.network_data.proofs.SubTlv.Laws as S′
-use Rattle.network_data.proofs.NetworkDataTlvIter.new as new
-use Rattle.network_data.proofs.NetworkDataTlvIter.new.Symbol as new-def
-use Rattle.network_data.proofs.NetworkDataTlvIter.new.Symbol.{name as #new}
-use Rattle.network_data.proofs.NetworkDataTlvIter.new.Met as new-thm
-use Rattle.network_data.proofs.NetworkDataTlvIter.item as item
-use Rattle.network_data.proofs.NetworkDataTlvIter.item.Symbol as item-def
-use Rattle.network_data.proofs.NetworkDataTlvIter.item.Symbol.{name as #item}
-use Rattle.network_data.proofs.NetworkDataTlvIter.item.Met as item-thm
-use Rattle.network_data.proofs.walker.first_tlv.Key.{name as #key}
-use Rattle.network_data.proofs.walker.first_tlv as first
-use Rattle.network_data.proofs.walker.first_tlv.Statement as stated
-use Rattle.network_data.proofs.walker.first_tlv.Code as code
+use Rattle.network_walker.proofs.NetworkDataTlvIter.new as new
+use Rattle.network_walker.proofs.NetworkDataTlvIter.new.Symbol as new-def
+use Rattle.network_walker.proofs.NetworkDataTlvIter.new.Symbol.{name as #new}
+use Rattle.network_walker.proofs.NetworkDataTlvIter.new.Met as new-thm
+use Rattle.network_walker.proofs.NetworkDataTlvIter.item as item
+use Rattle.network_walker.proofs.NetworkDataTlvIter.item.Symbol as item-def
+use Rattle.network_walker.proofs.NetworkDataTlvIter.item.Symbol.{name as #item}
+use Rattle.network_walker.proofs.NetworkDataTlvIter.item.Met as item-thm
+use Rattle.network_walker.proofs.walker.first_tlv.Key.{name as #key}
+use Rattle.network_walker.proofs.walker.first_tlv as first
+use Rattle.network_walker.proofs.walker.first_tlv.Statement as stated
+use Rattle.network_walker.proofs.walker.first_tlv.Code as code
 
 -- the struct's type, over the signature's lifetimes
 abbrev B : Lfts 1 → RattleType
@@ -159,5 +159,5 @@ first-tlv-spec 𝓤 H 𝓜 𝓖 𝓡 =
     entered 𝓤 H (tripleOf 𝓤 H (𝓖 .A) first.signature (first.spec 𝓤 H (𝓖 .A) (𝓜 .mem) (𝓡 .run)))
     (tables 𝓤 H 𝓜 𝓡 code.env .C) (tables 𝓤 H 𝓜 𝓡 code.env .Λ) #key code.function (code.unfolded 𝓤 H 𝓜 𝓡)
     (first-meets 𝓤 H (𝓖 .A) (givenOf 𝓤 H 𝓜 𝓖) (𝓜 .mem) (𝓡 .run) (tablesOf 𝓤 H 𝓜 (tables 𝓤 H 𝓜 𝓡 code.env))
-    (cited 𝓤 H (New 𝓤 H (𝓖 .A) (𝓜 .mem) (𝓡 .run)) 𝓜 𝓡 code.env #new new-def.routine code.calls-network-data·NetworkDataTlvIter·new (new-thm.met 𝓤 H 𝓜 𝓖 𝓡))
-    (cited 𝓤 H (Next 𝓤 H (𝓖 .A) (𝓜 .mem) (𝓡 .run)) 𝓜 𝓡 code.env #item item-def.routine code.calls-network-data·NetworkDataTlvIter·item (item-thm.met 𝓤 H 𝓜 𝓖 𝓡)))
+    (cited 𝓤 H (New 𝓤 H (𝓖 .A) (𝓜 .mem) (𝓡 .run)) 𝓜 𝓡 code.env #new new-def.routine code.calls-network-walker·NetworkDataTlvIter·new (new-thm.met 𝓤 H 𝓜 𝓖 𝓡))
+    (cited 𝓤 H (Next 𝓤 H (𝓖 .A) (𝓜 .mem) (𝓡 .run)) 𝓜 𝓡 code.env #item item-def.routine code.calls-network-walker·NetworkDataTlvIter·item (item-thm.met 𝓤 H 𝓜 𝓖 𝓡)))

@@ -1,10 +1,10 @@
--- `network_data::count_tlvs` meets its contract. Assumes nothing.
+-- `network_walker::count_tlvs` meets its contract. Assumes nothing.
 use mathlib.Core.Path.{_∙_}
 use borrow.Author.Needs.{needs}
 use borrow.Author.Tests.{lt-ltb, le-ltb}
-use Rattle.network_data.specs.Walker.{tlvCount}
-use Rattle.network_data.proofs.count_tlvs.Statement.{statement}
-use Rattle.network_data.proofs.count_tlvs.Tie as tie
+use Rattle.network_walker.specs.Walker.{tlvCount}
+use Rattle.network_walker.proofs.count_tlvs.Statement.{statement}
+use Rattle.network_walker.proofs.count_tlvs.Tie as tie
 
 returns : tie.Need-returns
 unfolding tlvCount

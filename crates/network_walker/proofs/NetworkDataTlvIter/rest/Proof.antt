@@ -1,4 +1,4 @@
--- `network_data::NetworkDataTlvIter::rest` meets its contract: a walk of its MIR, by hand. The struct is taken apart, `rest_of` is called on its slice, and the part that it hands back is put into a struct.
+-- `network_walker::NetworkDataTlvIter::rest` meets its contract: a walk of its MIR, by hand. The struct is taken apart, `rest_of` is called on its slice, and the part that it hands back is put into a struct.
 -- Assumes nothing.
 use mathlib.Core.Path.{_≡_, refl, ap, subst}
 use Prim.Native.Nat.{ℕ}
@@ -41,18 +41,18 @@ use denote.Triple.Table.{entered, cited}
 use denote.Triple.Walked.{says, Stays, stay-none, walkOf, goes-none, Walks, ends-at, walked, walk-meets}
 use denote.Exit.{yes}
 use denote.Triple.Clauses.{ensured, lasts}
-use Rattle.network_data.specs.Frame.{restOf}
-use Rattle.network_data.specs.declared.NetworkDataTlvIter.{NetworkDataTlvIter}
-use Rattle.network_data.proofs.NetworkDataTlvIter as T
-use Rattle.network_data.proofs.NetworkDataTlvIter.Laws as T′
-use Rattle.network_data.proofs.framing.rest_of as step
-use Rattle.network_data.proofs.framing.rest_of.Symbol as step-def
-use Rattle.network_data.proofs.framing.rest_of.Symbol.{name as #rest-of}
-use Rattle.network_data.proofs.framing.rest_of.Met as step-thm
-use Rattle.network_data.proofs.NetworkDataTlvIter.rest.Key.{name as #key}
-use Rattle.network_data.proofs.NetworkDataTlvIter.rest as next
-use Rattle.network_data.proofs.NetworkDataTlvIter.rest.Statement as stated
-use Rattle.network_data.proofs.NetworkDataTlvIter.rest.Code as code
+use Rattle.network_walker.specs.Walker.{restOf}
+use Rattle.network_walker.specs.declared.NetworkDataTlvIter.{NetworkDataTlvIter}
+use Rattle.network_walker.proofs.NetworkDataTlvIter as T
+use Rattle.network_walker.proofs.NetworkDataTlvIter.Laws as T′
+use Rattle.network_walker.proofs.framing.rest_of as step
+use Rattle.network_walker.proofs.framing.rest_of.Symbol as step-def
+use Rattle.network_walker.proofs.framing.rest_of.Symbol.{name as #rest-of}
+use Rattle.network_walker.proofs.framing.rest_of.Met as step-thm
+use Rattle.network_walker.proofs.NetworkDataTlvIter.rest.Key.{name as #key}
+use Rattle.network_walker.proofs.NetworkDataTlvIter.rest as next
+use Rattle.network_walker.proofs.NetworkDataTlvIter.rest.Statement as stated
+use Rattle.network_walker.proofs.NetworkDataTlvIter.rest.Code as code
 
 -- the struct's type, over the signature's lifetimes
 abbrev B : Lfts 1 → RattleType
@@ -172,4 +172,4 @@ rest-spec 𝓤 H 𝓜 𝓖 𝓡 =
     entered 𝓤 H (tripleOf 𝓤 H (𝓖 .A) next.signature (next.spec 𝓤 H (𝓖 .A) (𝓜 .mem) (𝓡 .run)))
     (tables 𝓤 H 𝓜 𝓡 code.env .C) (tables 𝓤 H 𝓜 𝓡 code.env .Λ) #key code.function (code.unfolded 𝓤 H 𝓜 𝓡)
     (rest-meets 𝓤 H (𝓖 .A) (givenOf 𝓤 H 𝓜 𝓖) (𝓜 .mem) (𝓡 .run) (tablesOf 𝓤 H 𝓜 (tables 𝓤 H 𝓜 𝓡 code.env))
-    (cited 𝓤 H (StepAt 𝓤 H (𝓖 .A) (𝓜 .mem) (𝓡 .run)) 𝓜 𝓡 code.env #rest-of step-def.routine code.calls-network-data·framing·rest-of (step-thm.met 𝓤 H 𝓜 𝓖 𝓡)))
+    (cited 𝓤 H (StepAt 𝓤 H (𝓖 .A) (𝓜 .mem) (𝓡 .run)) 𝓜 𝓡 code.env #rest-of step-def.routine code.calls-network-walker·framing·rest-of (step-thm.met 𝓤 H 𝓜 𝓖 𝓡)))

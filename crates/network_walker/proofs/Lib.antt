@@ -1,0 +1,3 @@
+pub mod Rests
+pub mod Shifts
+pub mod Papers
