@@ -1,4 +1,4 @@
--- The meaning of the code's answer tells it, so that a contract on the meaning determines the answer.
+-- The meanings of the code's answers tell them apart, so that a contract on a meaning determines the answer.
 -- Assumes nothing.
 use mathlib.Core.Path.{refl, ap}
 use Rattle.refusal.proofs.Papers.{Tells, tells, refusal-back, codeOf}

@@ -1,4 +1,4 @@
--- The code's answer, on paper.
+-- The code's answers, on paper.
 -- Assumes nothing.
 use Prim.Native.Nat.{ℕ}
 use Rattle.refusal.specs.Answer.{Answer, given}

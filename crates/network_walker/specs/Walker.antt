@@ -11,7 +11,7 @@ use Rattle.network_data.specs.Walk.{Piece, Stop, clean, short, Walk, walkIn}
 use Rattle.network_data.specs.declared.SubTlv.{SubTlv}
 use Rattle.network_data.specs.declared.SubTlv.the-variants.{Item, Cut, End}
 
--- what follows the TLV that stands there
+-- what follows a TLV that stands in s
 unfoldable pub after : List ℕ → SubTlv → List ℕ
 after s End = []
 after s Cut = []

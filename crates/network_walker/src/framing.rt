@@ -1,4 +1,4 @@
-// The step of the walker, over a plain slice.
+// What follows a TLV: the bytes that the walker goes on with.
 use network_data::SubTlv;
 use network_data::sub_at;
 ghost use mathlib.Core.Path.{_≡_};
