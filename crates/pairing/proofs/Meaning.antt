@@ -11,7 +11,7 @@ use Rattle.refusal.specs.Answer.{pick, Answer, given, absent, refused, onGiven}
 use Rattle.tlv.specs.Entries.{Entry}
 use Rattle.tlv.specs.Last.{lastOf, valueOr}
 use Rattle.refusal.specs.Numbered.{nth}
-use Rattle.diag_rows.specs.Rows.{listed, childRows}
+use Rattle.diag_rows.specs.Rows.{listed, childRows, addressListOf}
 use Rattle.diag_entries.specs.Parts.{last, allOf}
 use Rattle.diag_entries.specs.Checked.{checked}
 use Rattle.diag_entries.specs.Lists.{addressLists}

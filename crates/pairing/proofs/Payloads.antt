@@ -18,7 +18,7 @@ use Rattle.tlv.proofs.Tally.{Only, only, counted-short}
 use Rattle.tlv.specs.Last.{lastOf, lastEntry, valueOr, lastValue}
 use Rattle.diag_values.specs.Rule.{keepsRule, valueOf}
 use Rattle.refusal.specs.Numbered.{nth}
-use Rattle.diag_rows.specs.Rows.{childAt, childRows}
+use Rattle.diag_rows.specs.Rows.{childAt, childRows, addressListOf}
 use Rattle.diag_rows.specs.declared.ChildTableEntry.{ChildTableEntry}
 use Rattle.diag_entries.specs.Parts.{last, allOf}
 use Rattle.diag_entries.specs.Checked.{decoding, checked}

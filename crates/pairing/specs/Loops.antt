@@ -9,7 +9,7 @@ use Rattle.refusal.specs.Answer.{pick, Answer, given, absent, refused, thenDo, 
 use Rattle.tlv.specs.Entries.{Entry}
 use Rattle.diag_values.specs.Rule.{valueOf}
 use Rattle.refusal.specs.Numbered.{nth}
-use Rattle.diag_rows.specs.Rows.{listed, childRows}
+use Rattle.diag_rows.specs.Rows.{listed, childRows, addressListOf}
 use Rattle.diag_rows.specs.declared.ChildTableEntry.{ChildTableEntry}
 use Rattle.diag_rows.specs.declared.ChildIpv6AddrInfo.{ChildIpv6AddrInfo}
 use Rattle.diag_entries.specs.Parts.{allOf}
