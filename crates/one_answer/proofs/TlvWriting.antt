@@ -6,9 +6,10 @@ use Prim.Native.Nat.{ℕ}
 use Rattle.refusal.proofs.Papers.{written-tells}
 use Rattle.refusal.specs.Output.{emit, output, placing, writtenAnswer}
 use Rattle.refusal.specs.declared.Written.{Written}
-use Rattle.tlv_writing.specs.Encode.{encoded, placedIf, rewritten, withSet}
-use Rattle.tlv_writing.specs.declared.Choice.{Choice}
-use Rattle.tlv_writing.specs.declared.Choice.the-variants.{All}
+use Rattle.tlv_writing.specs.Encode.{encoded, placedIf}
+use Rattle.tlv_rewriting.specs.Rewrite.{rewritten, withSet}
+use Rattle.tlv_rewriting.specs.declared.Choice.{Choice}
+use Rattle.tlv_rewriting.specs.declared.Choice.the-variants.{All}
 use Rattle.one_answer.proofs.General.{leaves, leaves-placed}
 use Rattle.one_answer.specs.One.{Leaves}
 
