@@ -10,7 +10,7 @@ use Rattle.refusal.specs.Answer.{given}
 use Rattle.laws.proofs.Tests.{by-test}
 use Rattle.tlv.specs.Entries.{Content, content}
 use Rattle.tlv_writing.specs.Encode.{encodeAll, sized}
-use Rattle.tlv_writing.proofs.Sets.{sized-is}
+use Rattle.tlv_writing.proofs.Several.{sized-is}
 use Rattle.change_lists.specs.Operations.{Op, set, remove}
 use Rattle.change_lists.specs.Run.{runAll}
 use Rattle.change_lists.specs.Fold.{touches, lasts, setsOf, types, foldAll}

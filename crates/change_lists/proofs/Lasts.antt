@@ -9,8 +9,8 @@ use borrow.Author.Tests.{eqb-true, eqb-false, eq-eqb, ne-eqb}
 use Rattle.refusal.specs.Answer.{pick}
 use Rattle.laws.proofs.Tests.{by-test}
 use Rattle.tlv.specs.Entries.{Content}
-use Rattle.tlv_writing.specs.Encode.{keepsOf, kept, setLast}
-use Rattle.tlv_writing.specs.declared.Choice.the-variants.{Without}
+use Rattle.tlv_rewriting.specs.Rewrite.{keepsOf, kept, setLast}
+use Rattle.tlv_rewriting.specs.declared.Choice.the-variants.{Without}
 use Rattle.change_lists.specs.Operations.{Op, set, remove}
 use Rattle.change_lists.specs.Run.{perform, runAll}
 use Rattle.change_lists.specs.Fold.{about, touches, lasts, setsOf, removes}

@@ -6,8 +6,9 @@ use mathlib.Core.List.{List, [], _∷_}
 use Rattle.refusal.specs.Answer.{Answer, thenDo}
 use Rattle.tlv.specs.Entries.{Entry, Content, contents}
 use Rattle.tlv.specs.Limits.{framed}
-use Rattle.tlv_writing.specs.Encode.{kept, setLast, sized}
-use Rattle.tlv_writing.specs.declared.Choice.the-variants.{Without}
+use Rattle.tlv_writing.specs.Encode.{sized}
+use Rattle.tlv_rewriting.specs.Rewrite.{kept, setLast}
+use Rattle.tlv_rewriting.specs.declared.Choice.the-variants.{Without}
 use Rattle.change_lists.specs.Operations.{Op, set, remove, OpAt, bare, operations}
 
 -- one operation, by the definitions of the dataset's edits

@@ -19,7 +19,7 @@ use Rattle.tlv.specs.Limits.{count}
 use Rattle.tlv_writing.specs.Encode.{encodeAll, sized}
 use Rattle.tlv.proofs.Walks.{from-start}
 use Rattle.tlv.proofs.Tally as tally
-use Rattle.tlv_writing.proofs.Sets.{encode-append}
+use Rattle.tlv_writing.proofs.Several.{encode-append}
 use Rattle.change_lists.specs.Operations.{Op, set, OpAt, opsIn, opsOf, bare, limitedOps, operations}
 use Rattle.change_lists.specs.Run.{runAll, ran}
 use Rattle.change_lists.specs.Fold.{lasts, setsOf, foldAll, encodeOps, sizedOps, folded, foldedTwo}

@@ -10,7 +10,7 @@ use borrow.Author.Tests.{eq-eqb, ne-eqb}
 use Rattle.tlv.specs.Entries.{entry, Content, content, contents, Framing, framing}
 use Rattle.tlv_writing.specs.Encode.{encode, sizeOf, encodeAll}
 use Rattle.tlv.proofs.Walks.{from, from-start}
-use Rattle.tlv_writing.proofs.Kept.{encode-more, size-part}
+use Rattle.tlv_writing.proofs.Several.{encode-more, size-part}
 use Rattle.change_lists.specs.Fold.{encodeOp}
 use Rattle.changes.specs.Loops.{spared, encodeSet, encodeSets, extentOf}
 

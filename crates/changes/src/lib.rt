@@ -11,7 +11,7 @@ ghost use lib.ListN.{length};
 ghost use Rattle.refusal.specs.Sizes.{mostBytes, mostValue};
 ghost use Rattle.refusal.specs.Output.{output, emit, writtenAnswer, put};
 ghost use Rattle.tlv.specs.Entries.{content, contents, framing};
-ghost use Rattle.tlv_writing.specs.Encode.{sizeOf, encodeAll};
+ghost use Rattle.tlv_writing.specs.Encode.{encodeAll};
 ghost use Rattle.change_lists.specs.Run.{ran};
 ghost use Rattle.change_lists.specs.Fold.{encodeOps, folded, foldedTwo};
 ghost use Rattle.changes.specs.Loops.{opsAfter, Marked, spared, chosen, goneBelow, encodeSet, encodeSets, extentOf, foldedExtent};
@@ -47,18 +47,6 @@ fn mark(table: [usize; 256], list: &[u8], base: usize) -> [usize; 256]
     }
 }
 
-// How many bytes an entry takes whose value has n bytes.
-fn size_of(n: usize) -> usize
-    requires { ⌜ n ≤ mostValue ⌝ }
-    ensures { λ r. ⌜ r ≡ sizeOf n ⌝ }
-{
-    if n <= tlv::MAX_STANDARD_TLV_LENGTH {
-        n + 2
-    } else {
-        n + 4
-    }
-}
-
 // How many bytes the entries take whose types have no mark, and how many they are.
 fn spared_extent(s: &[u8], marks: [usize; 256]) -> Extent
     requires { ⌜ length (now s) ≤ mostBytes ⌝ }
@@ -72,7 +60,7 @@ fn spared_extent(s: &[u8], marks: [usize; 256]) -> Extent
             Frame::Entry { ty, start, len } => {
                 let end = start + len;
                 if marks[ty as usize] == 0 {
-                    bytes += size_of(len);
+                    bytes += tlv_writing::entry_size(len);
                     entries += 1;
                 }
                 at = end;
@@ -100,7 +88,7 @@ fn chosen_extent(list: &[u8], marks: [usize; 256], base: usize) -> Extent
             OpFrame::Set { ty, start, len } => {
                 let end = start + len;
                 if marks[ty as usize] == base + at + 2 {
-                    bytes += size_of(len);
+                    bytes += tlv_writing::entry_size(len);
                     entries += 1;
                 }
                 at = end;

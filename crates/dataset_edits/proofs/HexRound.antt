@@ -15,9 +15,10 @@ use Rattle.refusal.specs.Every.{Every, Bytes}
 use Rattle.laws.proofs.Parts.{every-append, every-parts}
 use Rattle.tlv.specs.Entries.{First, none, cut, one, valued, long, first, Entry, Content, contents, Framing, step, frames, framing}
 use Rattle.tlv.specs.Limits.{framed}
-use Rattle.tlv_writing.specs.Encode.{header, encode, encodeAll, keepsOf, kept, rewritten}
-use Rattle.tlv_writing.specs.declared.Choice.{Choice}
-use Rattle.tlv_writing.specs.declared.Choice.the-variants.{All}
+use Rattle.tlv_writing.specs.Encode.{header, encode, encodeAll}
+use Rattle.tlv_rewriting.specs.Rewrite.{keepsOf, kept, rewritten}
+use Rattle.tlv_rewriting.specs.declared.Choice.{Choice}
+use Rattle.tlv_rewriting.specs.declared.Choice.the-variants.{All}
 use Rattle.tlv.proofs.Tally.{framed-holds}
 use Rattle.base16.specs.Base16.{hexText}
 use Rattle.base16.proofs.RoundTrips.{decoded-text}

@@ -14,10 +14,11 @@ use Rattle.refusal.specs.Output.{output, emit}
 use Rattle.refusal.specs.Every.{Bytes}
 use Rattle.laws.proofs.Callers.{Refuses, itself, no-room, gave, refuses}
 use Rattle.tlv.specs.Limits.{framed}
-use Rattle.tlv_writing.specs.Encode.{rewritten}
-use Rattle.tlv_writing.specs.declared.Choice.{Choice}
-use Rattle.tlv_writing.specs.declared.Choice.the-variants.{All}
-use Rattle.tlv_writing.proofs.Round.{given-bytes, rewritten-length}
+use Rattle.tlv_rewriting.specs.Rewrite.{rewritten}
+use Rattle.tlv_rewriting.specs.declared.Choice.{Choice}
+use Rattle.tlv_rewriting.specs.declared.Choice.the-variants.{All}
+use Rattle.tlv_writing.proofs.Round.{given-bytes}
+use Rattle.tlv_rewriting.proofs.Kept.{rewritten-length}
 use Rattle.base16.specs.Base16.{decoded, hexText}
 use Rattle.base16.proofs.RoundTrips.{decoded-fits}
 use Rattle.dataset_edits.specs.Edits.{hexOf, wellFramed, fromHex}

@@ -16,9 +16,10 @@ use Rattle.refusal.specs.Every.{Bytes}
 use Rattle.tlv.specs.Entries.{Entry, Content, content, contents}
 use Rattle.tlv.specs.Limits.{framed}
 use Rattle.tlv.specs.Last.{lastOf, lastEntry, valueOr, lastValue}
-use Rattle.tlv_writing.specs.Encode.{encodeAll, keepsOf, kept, rewritten, setLast, sized, withSet}
-use Rattle.tlv_writing.specs.declared.Choice.{Choice}
-use Rattle.tlv_writing.specs.declared.Choice.the-variants.{All, Without}
+use Rattle.tlv_writing.specs.Encode.{encodeAll, sized}
+use Rattle.tlv_rewriting.specs.Rewrite.{keepsOf, kept, rewritten, setLast, withSet}
+use Rattle.tlv_rewriting.specs.declared.Choice.{Choice}
+use Rattle.tlv_rewriting.specs.declared.Choice.the-variants.{All, Without}
 use Rattle.tlv_writing.proofs.Round.{given-entries, parse-written}
 use Rattle.laws.proofs.Answers.{gives}
 use Rattle.dataset_edits.proofs.Hexes.{rewritten-fits}

@@ -5,8 +5,8 @@ use mathlib.Core.List.{List}
 use Rattle.refusal.specs.Answer.{Answer, thenDo, onGiven}
 use Rattle.tlv.specs.Entries.{Entry}
 use Rattle.tlv.specs.Limits.{framed}
-use Rattle.tlv_writing.specs.Encode.{rewritten}
-use Rattle.tlv_writing.specs.declared.Choice.the-variants.{All}
+use Rattle.tlv_rewriting.specs.Rewrite.{rewritten}
+use Rattle.tlv_rewriting.specs.declared.Choice.the-variants.{All}
 use Rattle.base16.specs.Base16.{decoded, hexText}
 
 -- the text of a dataset, written afresh: 1, 2, 3

@@ -2,32 +2,32 @@
 use refusal::Fault;
 use refusal::Written;
 use tlv::Counted;
-use tlv_writing::Choice;
+use tlv_rewriting::Choice;
 ghost use mathlib.Core.Path.{_≡_};
 ghost use Rattle.refusal.specs.Output.{output, emit, writtenAnswer};
-ghost use Rattle.tlv_writing.specs.Encode.{rewritten, withSet};
-ghost use Rattle.tlv_writing.specs.declared.Choice.the-variants.{All, Without};
+ghost use Rattle.tlv_rewriting.specs.Rewrite.{rewritten, withSet};
+ghost use Rattle.tlv_rewriting.specs.declared.Choice.the-variants.{All, Without};
 ghost use Rattle.dataset_edits.specs.Edits.{hexOf, wellFramed, fromHex};
 
 // Each into a lent output. Setting: 1, 2, 3, 13, 10, 11.
 pub fn set_raw(s: &[u8], ty: u8, value: &[u8], out: &mut [u8]) -> Written
     ensures { λ r. ⌜ output (writtenAnswer r) (now (out .exit)) ≡ emit (withSet ty (now (value .entry)) (now (s .entry))) (now (out .entry)) ⌝ }
 {
-    tlv_writing::set_last(s, ty, value, out)
+    tlv_rewriting::set_last(s, ty, value, out)
 }
 
 // Removing: 1, 2, 3, 11.
 pub fn remove_all(s: &[u8], ty: u8, out: &mut [u8]) -> Written
     ensures { λ r. ⌜ output (writtenAnswer r) (now (out .exit)) ≡ emit (rewritten (Without ty) (now (s .entry))) (now (out .entry)) ⌝ }
 {
-    tlv_writing::write_kept(s, Choice::Without(ty), out)
+    tlv_rewriting::write_kept(s, Choice::Without(ty), out)
 }
 
 // Written afresh: 1, 2, 3, 11.
 pub fn to_bytes(s: &[u8], out: &mut [u8]) -> Written
     ensures { λ r. ⌜ output (writtenAnswer r) (now (out .exit)) ≡ emit (rewritten All (now (s .entry))) (now (out .entry)) ⌝ }
 {
-    tlv_writing::rewrite(s, out)
+    tlv_rewriting::rewrite(s, out)
 }
 
 // Written afresh, as hex text in lower case: 1, 2, 3, 11.
@@ -35,7 +35,7 @@ pub fn to_hex(s: &[u8], out: &mut [u8]) -> Written
     ensures { λ r. ⌜ output (writtenAnswer r) (now (out .exit)) ≡ emit (hexOf (now (s .entry))) (now (out .entry)) ⌝ }
 {
     let mut bytes = [0u8; refusal::MAX_BYTES];
-    match tlv_writing::rewrite(s, &mut bytes) {
+    match tlv_rewriting::rewrite(s, &mut bytes) {
         Written::Refused(r) => Written::Refused(r),
         Written::Bytes(n) => base16::encode(&bytes[0..n], out),
     }

@@ -7,8 +7,8 @@ use Rattle.dataset_edits.specs.Edits.{fromHex, hexOf}
 use Rattle.refusal.proofs.Papers.{written-tells}
 use Rattle.refusal.specs.Output.{emit, output, writtenAnswer}
 use Rattle.refusal.specs.declared.Written.{Written}
-use Rattle.tlv_writing.specs.Encode.{rewritten, withSet}
-use Rattle.tlv_writing.specs.declared.Choice.the-variants.{All, Without}
+use Rattle.tlv_rewriting.specs.Rewrite.{rewritten, withSet}
+use Rattle.tlv_rewriting.specs.declared.Choice.the-variants.{All, Without}
 use Rattle.one_answer.proofs.General.{leaves}
 use Rattle.one_answer.specs.One.{Leaves}
 

@@ -3,6 +3,7 @@ pub mod Refusal
 pub mod Wire
 pub mod Tlv
 pub mod TlvWriting
+pub mod TlvRewriting
 pub mod Base16
 pub mod Utf8
 pub mod Values

@@ -6,11 +6,13 @@ use Prim.Native.Nat.{ℕ}
 use Rattle.refusal.proofs.Papers.{written-tells}
 use Rattle.refusal.specs.Output.{emit, output, placing, writtenAnswer}
 use Rattle.refusal.specs.declared.Written.{Written}
-use Rattle.tlv_writing.specs.Encode.{encoded, placedIf, rewritten, withSet}
-use Rattle.tlv_writing.specs.declared.Choice.{Choice}
-use Rattle.tlv_writing.specs.declared.Choice.the-variants.{All}
-use Rattle.one_answer.proofs.General.{leaves, leaves-placed}
-use Rattle.one_answer.specs.One.{Leaves}
+use Rattle.tlv_writing.specs.Encode.{entrySize, encoded, placedIf}
+use Rattle.one_answer.proofs.General.{one-itself, leaves, leaves-placed}
+use Rattle.one_answer.specs.One.{One, Leaves}
+
+-- tlv_writing::entry_size
+pub entry-size : (n : ℕ) → One (λ (r : ℕ). r ≡ entrySize n)
+entry-size n = one-itself _
 
 -- tlv_writing::put_entry
 pub put-entry : (ty : ℕ) (value : List ℕ) (out : List ℕ) (at : ℕ) → Leaves (λ (r : ℕ) (left : List ℕ). placing r left ≡ placedIf (encoded ty value) at out)
@@ -19,15 +21,3 @@ put-entry ty value out at = leaves-placed _
 -- tlv_writing::write_entry
 pub write-entry : (ty : ℕ) (value : List ℕ) (out : List ℕ) → Leaves (λ (r : Written) (left : List ℕ). output (writtenAnswer r) left ≡ emit (encoded ty value) out)
 write-entry ty value out = leaves writtenAnswer written-tells _
-
--- tlv_writing::write_kept
-pub write-kept : (s : List ℕ) (c : Choice) (out : List ℕ) → Leaves (λ (r : Written) (left : List ℕ). output (writtenAnswer r) left ≡ emit (rewritten c s) out)
-write-kept s c out = leaves writtenAnswer written-tells _
-
--- tlv_writing::rewrite
-pub rewrite : (s : List ℕ) (out : List ℕ) → Leaves (λ (r : Written) (left : List ℕ). output (writtenAnswer r) left ≡ emit (rewritten All s) out)
-rewrite s out = leaves writtenAnswer written-tells _
-
--- tlv_writing::set_last
-pub set-last : (s : List ℕ) (ty : ℕ) (value : List ℕ) (out : List ℕ) → Leaves (λ (r : Written) (left : List ℕ). output (writtenAnswer r) left ≡ emit (withSet ty value s) out)
-set-last s ty value out = leaves writtenAnswer written-tells _

@@ -7,7 +7,7 @@ use texts::Room;
 
 pub(crate) fn entry_calls(request: &Room, v: Values, lent: &mut [u8]) -> Answer {
     if asks(request, b"rewrite bn") {
-        return Answer::Wrote(tlv_writing::rewrite(v.bytes(request, 1), lent));
+        return Answer::Wrote(tlv_rewriting::rewrite(v.bytes(request, 1), lent));
     }
     if asks(request, b"entry tbn") {
         return Answer::Wrote(tlv_writing::write_entry(v.type_byte(1), v.bytes(request, 2), lent));

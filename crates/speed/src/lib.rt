@@ -14,8 +14,8 @@ ghost use Rattle.refusal.specs.Answer.{given, onGiven};
 ghost use Rattle.refusal.specs.Output.{emit, writtenAnswer};
 ghost use Rattle.tlv.specs.Limits.{count};
 ghost use Rattle.tlv.specs.Last.{lastValue};
-ghost use Rattle.tlv_writing.specs.Encode.{rewritten};
-ghost use Rattle.tlv_writing.specs.declared.Choice.the-variants.{All};
+ghost use Rattle.tlv_rewriting.specs.Rewrite.{rewritten};
+ghost use Rattle.tlv_rewriting.specs.declared.Choice.the-variants.{All};
 ghost use Rattle.base16.specs.Base16.{decoded, hexText};
 ghost use Rattle.utf8.specs.Utf8.{octets};
 ghost use Rattle.change_lists.specs.Run.{ran};
@@ -63,7 +63,7 @@ pub extern "C" fn speed_last(s: &[u8], ty: u8) -> u64
 pub extern "C" fn speed_rewrite(s: &[u8], out: &mut [u8]) -> u64
     ensures { λ r. ⌜ (r ≡ code (emit (rewritten All (now (s .entry))) (now (out .entry)) .answer)) × (now (out .exit) ≡ emit (rewritten All (now (s .entry))) (now (out .entry)) .left) ⌝ }
 {
-    coded(tlv_writing::rewrite(s, out))
+    coded(tlv_rewriting::rewrite(s, out))
 }
 
 #[no_mangle]

@@ -4,7 +4,8 @@ use Rattle.refusal.specs.Every.{Every}
 use Rattle.wire.specs.Be.{beFrom, be, bytesOf}
 use Rattle.tlv.specs.Entries.{valued, long, first, contents, step, frames, framing}
 use Rattle.tlv.specs.Limits.{limited, framed}
-use Rattle.tlv_writing.specs.Encode.{header, encode, encodeAll, keepsOf, kept, rewritten, setLast, sized}
+use Rattle.tlv_writing.specs.Encode.{header, encode, encodeAll, sized}
+use Rattle.tlv_rewriting.specs.Rewrite.{keepsOf, kept, rewritten, setLast}
 use Rattle.values.specs.Threshold.{threshold, withThreshold}
 use Rattle.change_lists.specs.Operations.{setOf, removalOf, firstOp, opStep, opsIn, opsOf, bare, limitedOps, operations}
 use Rattle.change_lists.specs.Fold.{about, touches, lasts, setsOf, removes, removalsBelow, types, foldAll, encodeOp, encodeOps, sizedOps, folded}

@@ -6,8 +6,8 @@ use mathlib.Core.List.{List, [], _∷_}
 use Prim.Native.Nat.{ℕ}
 use Rattle.refusal.specs.Answer.{Answer, given, refused, thenDo}
 use Rattle.tlv.specs.Limits.{framed}
-use Rattle.tlv_writing.specs.Encode.{rewritten}
-use Rattle.tlv_writing.specs.declared.Choice.the-variants.{All}
+use Rattle.tlv_rewriting.specs.Rewrite.{rewritten}
+use Rattle.tlv_rewriting.specs.declared.Choice.the-variants.{All}
 use Rattle.timestamps.specs.Timestamps.{built, timestampBytes}
 use Rattle.values.specs.Threshold.{threshold, withThreshold}
 use Rattle.values.specs.declared.ThreadProtocolVersion.the-variants.{V1Or2, V5}

@@ -14,7 +14,7 @@ use Rattle.refusal.specs.Output.{put, placing, placed}
 use Rattle.laws.proofs.Tests.{by-test}
 use Rattle.laws.proofs.Puts.{put-then, put-length}
 use Rattle.laws.proofs.Emits.{placed-fits, placed-not}
-use Rattle.tlv_writing.specs.Encode.{header, encode, sizeOf, encoded, placedIf}
+use Rattle.tlv_writing.specs.Encode.{header, encode, sizeOf, entrySize, encoded, placedIf}
 
 module _ (t n : ℕ) where
   pub header-short : n ≤ mostShort → header t n ≡ t ∷ n ∷ []
@@ -44,6 +44,10 @@ module _ (t n : ℕ) where
 pub size-bound : (n : ℕ) → (n + 2 ≤ sizeOf n) × (sizeOf n ≤ n + 4)
 unfolding sizeOf
 size-bound n = by-test (leb n mostShort) (λ e. rw e (omega arith)) (λ e. rw e (omega arith))
+
+pub entry-size : (n : ℕ) → n ≤ mostValue → entrySize n ≡ sizeOf n
+unfolding entrySize
+entry-size n h = simp (le-leb _ _ h)
 
 module _ (t : ℕ) (v : List ℕ) where
   pub length-encode : length (encode t v) ≡ sizeOf (length v)

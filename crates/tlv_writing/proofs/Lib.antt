@@ -1,4 +1,3 @@
 pub mod Encodes
-pub mod Kept
-pub mod Sets
+pub mod Several
 pub mod Round

@@ -17,8 +17,7 @@ use Rattle.refusal.specs.Every.{Every, Bytes}
 use Rattle.laws.proofs.Parts.{every-parts}
 use Rattle.tlv.specs.Entries.{First, none, cut, one, valued, long, first, Entry, entry, Content, contents, Stop, clean, cutAt, Framing, done, onto, step, frames, framing}
 use Rattle.tlv.specs.Limits.{limited, framed}
-use Rattle.tlv_writing.specs.Encode.{header, encode, sizeOf, encodeAll, Shortest, keepsOf, kept, rewritten}
-use Rattle.tlv_writing.specs.declared.Choice.{Choice}
+use Rattle.tlv_writing.specs.Encode.{header, encode, sizeOf, encodeAll, Shortest}
 use Rattle.tlv_writing.proofs.Encodes.{header-short, header-long, length-encode, size-bound}
 
 -- ---- entries are given exactly where s is within the sizes and no entry is cut short
@@ -65,7 +64,7 @@ module _ (t : ℕ) (v rest : List ℕ) where
   length-entry : length (encode t v ++ rest) ≡ sizeOf (length v) + length rest
   length-entry = length-append (encode t v) rest ∙ rw (length-encode t v)
 
-length-all : (c : Content) (cs : List Content) → length (encodeAll (c ∷ cs)) ≡ sizeOf (length (c .value)) + length (encodeAll cs)
+pub length-all : (c : Content) (cs : List Content) → length (encodeAll (c ∷ cs)) ≡ sizeOf (length (c .value)) + length (encodeAll cs)
 unfolding encodeAll
 length-all c cs = length-entry (c .ty) (c .value) (encodeAll cs)
 
@@ -230,25 +229,6 @@ write-parsed i s es b e =
     let r = given-rewrites i s es b e in
     (λ same. r .2 (ap length same), r .1)
 
--- ---- what is kept of the entries, written afresh, is never longer than the input, so that 10, "result over the sizes above", cannot occur
-kept-length : (c : Choice) (es : List Content) → length (encodeAll (kept c es)) ≤ length (encodeAll es)
-unfolding kept
-kept-length c [] = omega arith
-kept-length c (e ∷ es) =
-    let go = kept-length c es in
-    let all = length-all e es in
-    by-test (keepsOf c (e .ty)) (λ t. rw t (omega (arith, length-all e (kept c es)))) (λ t. rw t (omega arith))
-
-abbrev NotLonger : List ℕ → Answer (List ℕ) → Type 0
-NotLonger s (given bs) = length bs ≤ length s
-NotLonger s absent = Unit {0}
-NotLonger s (refused n p i) = Unit {0}
-
-pub rewritten-length : (c : Choice) (s bs : List ℕ) → Bytes s → rewritten c s ≡ given bs → length bs ≤ length s
-unfolding rewritten
-rewritten-length c s bs b e = subst (NotLonger s) e (not-longer (framed 0 s) refl)
-  where
-    not-longer : (a : Answer (List Entry)) → framed 0 s ≡ a → NotLonger s (onGiven (λ (es : List Entry). encodeAll (kept c (contents es))) a)
-    not-longer (given es) h = omega (arith, kept-length c (contents es), given-rewrites 0 s es b h .0)
-    not-longer absent h = tt
-    not-longer (refused n p i) h = tt
+-- what was parsed and is written afresh is never longer than the input
+pub parsed-length : (i : ℕ) (s : List ℕ) (es : List Entry) → Bytes s → framed i s ≡ given es → length (encodeAll (contents es)) ≤ length s
+parsed-length i s es b e = given-rewrites i s es b e .0

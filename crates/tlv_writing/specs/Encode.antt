@@ -2,17 +2,13 @@
 -- Assumes nothing.
 use mathlib.Core.Path.{_≡_}
 use Prim.Native.Nat.{ℕ, _+_, _/_, _%_, _<_}
-use mathlib.Core.Bool.{Bool, true, not}
 use mathlib.Core.List.{List, [], _∷_, _++_}
 use lib.ListN.{length}
-use lib.Dec.{leb, ltb, eqb}
+use lib.Dec.{leb, ltb}
 use Rattle.refusal.specs.Sizes.{mostBytes, mostEntries, mostShort, mostValue}
-use Rattle.refusal.specs.Answer.{pick, Answer, given, absent, refused, thenDo, onGiven}
+use Rattle.refusal.specs.Answer.{pick, Answer, given, absent, refused}
 use Rattle.refusal.specs.Output.{Placed, placing, placed}
-use Rattle.tlv.specs.Entries.{Entry, Content, content, contents}
-use Rattle.tlv.specs.Limits.{framed}
-use Rattle.tlv_writing.specs.declared.Choice.{Choice}
-use Rattle.tlv_writing.specs.declared.Choice.the-variants as c
+use Rattle.tlv.specs.Entries.{Entry, Content}
 
 -- the shortest header of a value of n bytes
 unfoldable pub header : (ty n : ℕ) → List ℕ
@@ -25,6 +21,10 @@ encode t v = header t (length v) ++ v
 -- how many bytes that is, for a value of n bytes
 unfoldable pub sizeOf : ℕ → ℕ
 sizeOf n = pick (leb n mostShort) (n + 2) (n + 4)
+
+-- and of any n: 0 where no entry has so long a value
+unfoldable pub entrySize : ℕ → ℕ
+entrySize n = pick (leb n mostValue) (sizeOf n) 0
 
 -- 13: "value over 65,535 bytes ... to be written"
 unfoldable pub encoded : (ty : ℕ) → (value : List ℕ) → Answer (List ℕ)
@@ -45,31 +45,8 @@ encodeAll (c ∷ cs) = encode (c .ty) (c .value) ++ encodeAll cs
 abbrev pub Shortest : Entry → Type 0
 Shortest e = e .start ≡ e .place + 4 → mostShort < length (e .value)
 
--- which entries a choice keeps
-unfoldable pub keepsOf : Choice → (ty : ℕ) → Bool
-keepsOf c.All t = true
-keepsOf (c.Without x) t = not (eqb t x)
-
-unfoldable pub kept : Choice → List Content → List Content
-kept c [] = []
-kept c (x ∷ xs) = pick (keepsOf c (x .ty)) (x ∷ kept c xs) (kept c xs)
-
--- the entries of s that are kept, written afresh. The result is never longer than s, so 10 cannot occur
-unfoldable pub rewritten : Choice → List ℕ → Answer (List ℕ)
-rewritten c s = onGiven (λ (es : List Entry). encodeAll (kept c (contents es))) (framed 0 s)
-
--- "Setting a type removes every entry of it and puts the new one last"
-unfoldable pub setLast : (ty : ℕ) → (value : List ℕ) → List Content → List Content
-setLast t v cs = kept (c.Without t) cs ++ (content t v ∷ [])
-
 -- entries as they are written, where they keep the sizes of a dataset: 10, "result over the sizes above"
 unfoldable pub sized : List Content → Answer (List ℕ)
 sized cs =
     pick (ltb mostBytes (length (encodeAll cs))) (refused 10 0 0)
     (pick (ltb mostEntries (length cs)) (refused 10 0 0) (given (encodeAll cs)))
-
--- s with a type set: 1, 2, 3, then 13, 10
-unfoldable pub withSet : (ty : ℕ) → (value : List ℕ) → List ℕ → Answer (List ℕ)
-withSet t v s =
-    thenDo (framed 0 s)
-    (λ (es : List Entry). pick (ltb mostValue (length v)) (refused 13 0 0) (sized (setLast t v (contents es))))

@@ -10,11 +10,11 @@ use lib.ListN.{length}
 use borrow.Author.Needs.{needs}
 use Rattle.tlv.specs.Entries.{Content}
 use Rattle.tlv_writing.specs.Encode.{encodeAll}
-use Rattle.tlv_writing.proofs.Encodes.{size-bound}
+use Rattle.tlv_writing.proofs.Encodes.{size-bound, entry-size}
 use Rattle.changes.specs.Loops.{extentOf}
 use Rattle.change_lists.proofs.Places.{turn-none, set-within, removal-inside, set-ops, removal-ops}
 use Rattle.changes.proofs.Turns.{chosenFrom, chosen-start, chosen-end, chosen-set, chosen-not, chosen-removal}
-use Rattle.tlv_writing.proofs.Kept.{encode-none}
+use Rattle.tlv_writing.proofs.Several.{encode-none}
 use Rattle.changes.proofs.Writes.{all-length, extent-is}
 use Rattle.changes.proofs.chosen_extent.Statement.{statement}
 use Rattle.changes.proofs.chosen_extent.Tie as tie
@@ -57,15 +57,15 @@ add-if1 c = omega (arith, c .before .before .before .before .before .before .pre
 add-if1-2 : tie.Need-add-if1-2 Inv-loop μ-loop
 add-if1-2 c = omega (arith, c .before .before .before .before .before .before .pre)
 
-size-of-requires : tie.Need-size-of-requires Inv-loop μ-loop
-size-of-requires c κs =
-    let t = c .before .before in
-    omega (arith, set-within _ _ _ (t .before .before .operation-at .ensures) _ _ _ (t .ty .given .1))
+entry-size-requires : tie.Need-entry-size-requires Inv-loop μ-loop
+entry-size-requires c κs = tt
 
 add-bytes : tie.Need-add-bytes Inv-loop μ-loop
 add-bytes c =
     let t = c .before .before .before in
-    omega (arith, set-within _ _ _ (t .before .before .operation-at .ensures) _ _ _ (t .ty .given .1), c .size-of .ensures, size-bound (t .ty .given .0 .1 .1 .0))
+    let inside = set-within _ _ _ (t .before .before .operation-at .ensures) _ _ _ (t .ty .given .1) in
+    let n = t .ty .given .0 .1 .1 .0 in
+    omega (arith, inside, c .entry-size .ensures ∙ entry-size n (omega arith), size-bound n)
 
 add-entries : tie.Need-add-entries Inv-loop μ-loop
 add-entries c =
@@ -86,7 +86,7 @@ loop-again c =
     let n = t .ty .given .0 .1 .1 .0 in
     let a = h .before .before .before .args in
     let more = chosen-set (a .t2) _ _ _ _ _ _ (set-ops _ _ _ found _ _ _ (t .ty .given .1)) (c .before .if1 .taken) in
-    omega (arith, size-bound n, all-length (a .list .now) _ _ n _ _ more (inside .1), ap length more, c .size-of .ensures)
+    omega (arith, size-bound n, all-length (a .list .now) _ _ n _ _ more (inside .1), ap length more, c .entry-size .ensures ∙ entry-size n (omega arith))
 
 loop-less-2 : tie.Need-loop-less-2 Inv-loop μ-loop
 loop-less-2 c =
@@ -143,7 +143,7 @@ chosen-extent-spec =
     array-read-if1
     add-if1
     add-if1-2
-    size-of-requires
+    entry-size-requires
     add-bytes
     add-entries
     loop-less

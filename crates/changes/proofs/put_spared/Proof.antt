@@ -14,7 +14,7 @@ use Rattle.laws.proofs.Emits.{placed-next, placed-left}
 use Rattle.tlv_writing.specs.Encode.{encodeAll}
 use Rattle.tlv.proofs.Walks.{turn-entries, turn-none, turn-inside}
 use Rattle.tlv_writing.proofs.Encodes.{entry-placed}
-use Rattle.tlv_writing.proofs.Kept.{encode-none, encode-more, size-part}
+use Rattle.tlv_writing.proofs.Several.{encode-none, encode-more, size-part}
 use Rattle.changes.proofs.Writes.{all-length, sparedFrom, spared-start, spared-end, spared-keep, spared-skip}
 use Rattle.changes.proofs.put_spared.Statement.{statement}
 use Rattle.changes.proofs.put_spared.Tie as tie

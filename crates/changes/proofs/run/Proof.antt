@@ -15,7 +15,7 @@ use Rattle.tlv.specs.Limits.{count}
 use Rattle.tlv_writing.specs.Encode.{encodeAll, sized}
 use Rattle.tlv.specs.Answers.{countedAnswer}
 use Rattle.tlv.proofs.Tally as tally
-use Rattle.tlv_writing.proofs.Sets.{sized-bytes, sized-count, sized-is}
+use Rattle.tlv_writing.proofs.Several.{sized-bytes, sized-count, sized-is}
 use Rattle.change_lists.specs.Operations.{operations}
 use Rattle.change_lists.specs.Run.{ran}
 use Rattle.changes.specs.Loops.{opsAfter, spared, chosen, encodeSets}

@@ -11,9 +11,9 @@ use borrow.Author.Needs.{needs}
 use Rattle.tlv.specs.Entries.{Content}
 use Rattle.tlv_writing.specs.Encode.{encodeAll}
 use Rattle.tlv.proofs.Walks.{turn-entries, turn-none, turn-inside}
-use Rattle.tlv_writing.proofs.Encodes.{size-bound}
+use Rattle.tlv_writing.proofs.Encodes.{size-bound, entry-size}
 use Rattle.changes.specs.Loops.{extentOf}
-use Rattle.tlv_writing.proofs.Kept.{encode-none}
+use Rattle.tlv_writing.proofs.Several.{encode-none}
 use Rattle.changes.proofs.Writes.{all-length, extent-is, sparedFrom, spared-start, spared-end, spared-keep, spared-skip}
 use Rattle.changes.proofs.spared_extent.Statement.{statement}
 use Rattle.changes.proofs.spared_extent.Tie as tie
@@ -50,15 +50,15 @@ mul-if1 c = search needs
 array-read-if1 : tie.Need-array-read-if1 Inv-loop μ-loop
 array-read-if1 c = search needs
 
-size-of-requires : tie.Need-size-of-requires Inv-loop μ-loop
-size-of-requires c κs =
-    let t = c .before .before in
-    omega (arith, turn-inside _ _ _ (t .before .before .frame-at .ensures) _ _ _ (t .ty .given .1))
+entry-size-requires : tie.Need-entry-size-requires Inv-loop μ-loop
+entry-size-requires c κs = tt
 
 add-bytes : tie.Need-add-bytes Inv-loop μ-loop
 add-bytes c =
     let t = c .before .before .before in
-    omega (arith, turn-inside _ _ _ (t .before .before .frame-at .ensures) _ _ _ (t .ty .given .1), c .size-of .ensures, size-bound (t .ty .given .0 .1 .1 .0))
+    let inside = turn-inside _ _ _ (t .before .before .frame-at .ensures) _ _ _ (t .ty .given .1) in
+    let n = t .ty .given .0 .1 .1 .0 in
+    omega (arith, inside, c .entry-size .ensures ∙ entry-size n (omega arith), size-bound n)
 
 add-entries : tie.Need-add-entries Inv-loop μ-loop
 add-entries c =
@@ -79,7 +79,7 @@ loop-again c =
     let n = t .ty .given .0 .1 .1 .0 in
     let a = h .before .before .before .args in
     let keep = spared-keep (a .t2) _ _ _ _ n (turn-entries _ _ _ found _ _ _ (t .ty .given .1)) (c .before .if1 .taken) in
-    omega (arith, size-bound n, all-length (a .s .now) _ _ n _ _ keep (inside .1), ap length keep, c .size-of .ensures)
+    omega (arith, size-bound n, all-length (a .s .now) _ _ n _ _ keep (inside .1), ap length keep, c .entry-size .ensures ∙ entry-size n (omega arith))
 
 loop-less-2 : tie.Need-loop-less-2 Inv-loop μ-loop
 loop-less-2 c =
@@ -116,7 +116,7 @@ spared-extent-spec =
     cast-if1
     mul-if1
     array-read-if1
-    size-of-requires
+    entry-size-requires
     add-bytes
     add-entries
     loop-less

@@ -2,7 +2,7 @@
 -- Assumes nothing.
 use mathlib.Core.Path.{_∙_}
 use native.Mathlib.Omega.{arith}
-use Rattle.tlv_writing.proofs.Encodes.{too-long-placed, no-room-placed, value-placed}
+use Rattle.tlv_writing.proofs.Encodes.{entry-size, too-long-placed, no-room-placed, value-placed}
 use borrow.Author.Needs.{needs}
 use Rattle.tlv_writing.proofs.put_entry.Statement.{statement}
 use Rattle.tlv_writing.proofs.put_entry.Tie as tie
@@ -13,17 +13,22 @@ returns c = too-long-placed _ _ _ _ (c .if1 .taken)
 returns-2 : tie.Need-returns-2
 returns-2 c = no-room-placed _ _ _ _ (c .before .if1 .left) (omega arith)
 
-size-of-requires : tie.Need-size-of-requires
-size-of-requires c κs = search needs
+entry-size-requires : tie.Need-entry-size-requires
+entry-size-requires c κs = tt
 
 sub-if3 : tie.Need-sub-if3
 sub-if3 c = search needs
 
 returns-3 : tie.Need-returns-3
-returns-3 c = no-room-placed _ _ _ _ (c .before .before .before .if1 .left) (omega (arith, c .before .size-of .ensures))
+returns-3 c =
+    let long = c .before .before .before .if1 .left in
+    no-room-placed _ _ _ _ long (omega (arith, c .before .entry-size .ensures ∙ entry-size _ long))
 
 put-header-requires : tie.Need-put-header-requires
-put-header-requires c κs = search needs
+put-header-requires c κs =
+    let z = c .before .before in
+    let long = z .before .before .if1 .left in
+    (long, omega (arith, z .entry-size .ensures ∙ entry-size _ long))
 
 put-bytes-requires : tie.Need-put-bytes-requires
 put-bytes-requires c κs = search needs
@@ -37,7 +42,8 @@ returns-4 c =
     let h = b .before .before .before .before in
     let z = h .before .before .before in
     let e = z .before in
-    b .put-bytes .ensures ∙ value-placed _ _ _ _ _ _ (h .put-header .ensures .1) (h .put-header .ensures .0) (e .before .if1 .left) (omega (arith, z .size-of .ensures))
+    let long = e .before .if1 .left in
+    b .put-bytes .ensures ∙ value-placed _ _ _ _ _ _ (h .put-header .ensures .1) (h .put-header .ensures .0) long (omega (arith, z .entry-size .ensures ∙ entry-size _ long))
 
 pub put-entry-spec : {M : Type 1} → statement M
 put-entry-spec =
@@ -45,7 +51,7 @@ put-entry-spec =
     (tie.spec
     returns
     returns-2
-    size-of-requires
+    entry-size-requires
     sub-if3
     returns-3
     put-header-requires

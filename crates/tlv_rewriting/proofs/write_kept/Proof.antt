@@ -1,4 +1,4 @@
--- `tlv_writing::write_kept` meets its contract.
+-- `tlv_rewriting::write_kept` meets its contract.
 -- Assumes nothing.
 use mathlib.Core.Path.{_≡_, sym, ap, _∙_}
 use mathlib.Core.List.{List}
@@ -9,14 +9,15 @@ use Rattle.refusal.specs.Sizes.{mostBytes}
 use Rattle.refusal.specs.Answer.{given}
 use Rattle.laws.proofs.Emits.{emit-refused, emit-no-room, emit-done}
 use Rattle.tlv.specs.Entries.{contents, framing}
-use Rattle.tlv_writing.specs.Encode.{encodeAll, kept, rewritten}
+use Rattle.tlv_writing.specs.Encode.{encodeAll}
+use Rattle.tlv_rewriting.specs.Rewrite.{kept, rewritten}
 use Rattle.tlv.specs.Answers.{countedAnswer}
-use Rattle.tlv_writing.specs.declared.Choice.{Choice}
-use Rattle.tlv_writing.specs.declared.Extent.{Extent}
+use Rattle.tlv_rewriting.specs.declared.Choice.{Choice}
+use Rattle.tlv_rewriting.specs.declared.Extent.{Extent}
 use Rattle.tlv.proofs.Tally.{answers-given, answers-refused, counted-short}
 use borrow.Author.Needs.{needs}
-use Rattle.tlv_writing.proofs.write_kept.Statement.{statement}
-use Rattle.tlv_writing.proofs.write_kept.Tie as tie
+use Rattle.tlv_rewriting.proofs.write_kept.Statement.{statement}
+use Rattle.tlv_rewriting.proofs.write_kept.Tie as tie
 
 -- what is known once the input is counted
 module _ (c : tie.After-enum-told) where

@@ -1,9 +1,9 @@
--- `tlv_writing::keeps` meets its contract.
+-- `tlv_rewriting::keeps` meets its contract.
 -- Assumes nothing.
-use Rattle.tlv_writing.specs.Encode.{keepsOf}
+use Rattle.tlv_rewriting.specs.Rewrite.{keepsOf}
 use borrow.Author.Needs.{needs}
-use Rattle.tlv_writing.proofs.keeps.Statement.{statement}
-use Rattle.tlv_writing.proofs.keeps.Tie as tie
+use Rattle.tlv_rewriting.proofs.keeps.Statement.{statement}
+use Rattle.tlv_rewriting.proofs.keeps.Tie as tie
 
 enum-told : tie.Need-enum-told
 enum-told c = search needs

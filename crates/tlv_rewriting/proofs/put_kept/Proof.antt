@@ -1,4 +1,4 @@
--- `tlv_writing::put_kept` meets its contract. The invariant: what is left to write, stored from here on, makes of out what all the entries make of it.
+-- `tlv_rewriting::put_kept` meets its contract. The invariant: what is left to write, stored from here on, makes of out what all the entries make of it.
 -- The measure is what is left of the input.
 -- Assumes nothing.
 use mathlib.Core.Path.{_≡_, refl, sym, ap, _∙_}
@@ -11,12 +11,13 @@ use Rattle.refusal.specs.Output.{put}
 use Rattle.laws.proofs.Parts.{length-part}
 use Rattle.laws.proofs.Puts.{put-none, put-then}
 use Rattle.laws.proofs.Emits.{placed-next, placed-left}
 use Rattle.tlv_writing.specs.Encode.{encodeAll}
 use Rattle.tlv.proofs.Walks.{turn-entries, turn-none, turn-inside}
 use Rattle.tlv_writing.proofs.Encodes.{entry-placed}
-use Rattle.tlv_writing.proofs.Kept.{keptFrom, kept-start, kept-end, encode-none, turn-skip, bytes-keep, size-part, length-keep}
-use Rattle.tlv_writing.proofs.put_kept.Statement.{statement}
-use Rattle.tlv_writing.proofs.put_kept.Tie as tie
+use Rattle.tlv_writing.proofs.Several.{encode-none, size-part}
+use Rattle.tlv_rewriting.proofs.Kept.{keptFrom, kept-start, kept-end, turn-skip, bytes-keep, length-keep}
+use Rattle.tlv_rewriting.proofs.put_kept.Statement.{statement}
+use Rattle.tlv_rewriting.proofs.put_kept.Tie as tie
 
 abbrev Inv-loop : tie.InvT-loop
 Inv-loop s c out₀ to₀ at₀ out to at =

@@ -1,4 +1,4 @@
--- `tlv_writing::kept_extent` meets its contract. The invariant: what is counted, and what the entries from at on take, is what all take.
+-- `tlv_rewriting::kept_extent` meets its contract. The invariant: what is counted, and what the entries from at on take, is what all take.
 -- The measure is what is left of the input.
 -- Assumes nothing.
 use mathlib.Core.Path.{_≡_, sym, ap, _∙_}
@@ -9,13 +9,14 @@ use native.Mathlib.Nat.{zero-add}
 use lib.ListN.{length}
 use borrow.Author.Needs.{needs}
 use Rattle.tlv.specs.Entries.{Content}
 use Rattle.tlv_writing.specs.Encode.{encodeAll}
-use Rattle.tlv_writing.specs.Loops.{extentOf}
+use Rattle.tlv_rewriting.specs.Loops.{extentOf}
 use Rattle.tlv.proofs.Walks.{turn-entries, turn-none, turn-inside}
-use Rattle.tlv_writing.proofs.Encodes.{size-bound}
-use Rattle.tlv_writing.proofs.Kept.{keptFrom, kept-start, kept-end, encode-none, turn-skip, length-keep, count-keep, extent-is}
-use Rattle.tlv_writing.proofs.kept_extent.Statement.{statement}
-use Rattle.tlv_writing.proofs.kept_extent.Tie as tie
+use Rattle.tlv_writing.proofs.Encodes.{size-bound, entry-size}
+use Rattle.tlv_writing.proofs.Several.{encode-none}
+use Rattle.tlv_rewriting.proofs.Kept.{keptFrom, kept-start, kept-end, turn-skip, length-keep, count-keep, extent-is}
+use Rattle.tlv_rewriting.proofs.kept_extent.Statement.{statement}
+use Rattle.tlv_rewriting.proofs.kept_extent.Tie as tie
 
 abbrev Inv-loop : tie.InvT-loop
 Inv-loop s c bytes₀ entries₀ at₀ bytes entries at =
@@ -43,15 +44,15 @@ add-end c =
 keeps-requires : tie.Need-keeps-requires Inv-loop μ-loop
 keeps-requires c κs = tt
 
-size-of-requires : tie.Need-size-of-requires Inv-loop μ-loop
-size-of-requires c κs =
-    let t = c .before .before .before in
-    omega (arith, turn-inside _ _ _ (t .before .before .frame-at .ensures) _ _ _ (t .ty .given .1))
+entry-size-requires : tie.Need-entry-size-requires Inv-loop μ-loop
+entry-size-requires c κs = tt
 
 add-bytes : tie.Need-add-bytes Inv-loop μ-loop
 add-bytes c =
     let t = c .before .before .before .before in
-    omega (arith, turn-inside _ _ _ (t .before .before .frame-at .ensures) _ _ _ (t .ty .given .1), c .size-of .ensures, size-bound (t .ty .given .0 .1 .1 .0))
+    let inside = turn-inside _ _ _ (t .before .before .frame-at .ensures) _ _ _ (t .ty .given .1) in
+    let n = t .ty .given .0 .1 .1 .0 in
+    omega (arith, inside, c .entry-size .ensures ∙ entry-size n (omega arith), size-bound n)
 
 add-entries : tie.Need-add-entries Inv-loop μ-loop
 add-entries c =
@@ -71,7 +72,7 @@ loop-again c =
     let entries = turn-entries _ _ _ found _ _ _ (t .ty .given .1) in
     let n = t .ty .given .0 .1 .1 .0 in
     let kept = sym (c .before .before .keeps .ensures) ∙ c .before .if1 .taken in
-    omega (arith, size-bound n, length-keep _ _ _ _ _ n entries (inside .1) kept, count-keep _ _ _ _ _ n entries kept, c .size-of .ensures)
+    omega (arith, size-bound n, length-keep _ _ _ _ _ n entries (inside .1) kept, count-keep _ _ _ _ _ n entries kept, c .entry-size .ensures ∙ entry-size n (omega arith))
 
 loop-less-2 : tie.Need-loop-less-2 Inv-loop μ-loop
 loop-less-2 c =
@@ -106,7 +107,7 @@ kept-extent-spec =
     enum-known-ty
     add-end
     keeps-requires
-    size-of-requires
+    entry-size-requires
     add-bytes
     add-entries
     loop-less

@@ -1,4 +1,4 @@
--- `tlv_writing::set_last` meets its contract.
+-- `tlv_rewriting::set_last` meets its contract.
 -- Assumes nothing.
 use mathlib.Core.Path.{_≡_, sym, ap, _∙_}
 use mathlib.Core.List.{List}
@@ -13,16 +13,18 @@ use Rattle.laws.proofs.Puts.{put-then}
 use Rattle.laws.proofs.Emits.{emit-refused, emit-no-room, emit-done, placed-next, placed-left}
 use Rattle.tlv.specs.Entries.{Content, contents, framing}
 use Rattle.tlv.specs.Limits.{count}
-use Rattle.tlv_writing.specs.Encode.{encodeAll, kept, setLast, sized, withSet}
+use Rattle.tlv_writing.specs.Encode.{sizeOf, encodeAll, sized}
+use Rattle.tlv_rewriting.specs.Rewrite.{kept, setLast, withSet}
 use Rattle.tlv.specs.Answers.{countedAnswer}
-use Rattle.tlv_writing.specs.declared.Choice.the-variants.{Without}
-use Rattle.tlv_writing.specs.declared.Extent.{Extent}
+use Rattle.tlv_rewriting.specs.declared.Choice.the-variants.{Without}
+use Rattle.tlv_rewriting.specs.declared.Extent.{Extent}
 use Rattle.tlv.proofs.Tally.{counted-short}
-use Rattle.tlv_writing.proofs.Encodes.{size-bound, length-encode, entry-placed}
-use Rattle.tlv_writing.proofs.Sets.{set-bytes, set-length, set-count, sized-bytes, sized-count, sized-is, set-refused, set-too-long, set-sized}
+use Rattle.tlv_writing.proofs.Encodes.{size-bound, entry-size, length-encode, entry-placed}
+use Rattle.tlv_writing.proofs.Several.{sized-bytes, sized-count, sized-is}
+use Rattle.tlv_rewriting.proofs.Sets.{set-bytes, set-length, set-count, set-refused, set-too-long, set-sized}
 use borrow.Author.Needs.{needs}
-use Rattle.tlv_writing.proofs.set_last.Statement.{statement}
-use Rattle.tlv_writing.proofs.set_last.Tie as tie
+use Rattle.tlv_rewriting.proofs.set_last.Statement.{statement}
+use Rattle.tlv_rewriting.proofs.set_last.Tie as tie
 
 -- what is known once the input is counted
 module _ (c : tie.After-enum-told) where
@@ -33,7 +35,7 @@ module _ (c : tie.After-enum-told) where
   short = counted-short _ _ _ counted
 
 -- and once the rest of it and the new entry are measured
-module _ (c : tie.After-size-of) where
+module _ (c : tie.After-entry-size) where
   abbrev args : record { s : List ℕ; ty : ℕ; value : List ℕ }
   args = let a = c .before .before .before .before .before .before .before .before .before .args in record { s = a .s .now; ty = a .ty; value = a .value .now }
 
@@ -46,11 +48,14 @@ module _ (c : tie.After-size-of) where
   is-sized : withSet (args .ty) (args .value) (args .s) ≡ sized result
   is-sized = set-sized _ _ _ _ (counted (c .before .before .before)) (c .before .before .if1 .left)
 
+  new : c .entry-size .result ≡ sizeOf (length (args .value))
+  new = c .entry-size .ensures ∙ entry-size _ (c .before .before .if1 .left)
+
   rest : c .before .kept-extent .result .bytes ≡ length (encodeAll (kept (Without (args .ty)) entries))
   rest = ap (λ (x : Extent). x .bytes) (c .before .kept-extent .ensures .0)
 
-  bytes : length (encodeAll result) ≡ c .before .kept-extent .result .bytes + c .size-of .result
-  bytes = omega (arith, set-length (args .ty) (args .value) entries, rest, c .size-of .ensures)
+  bytes : length (encodeAll result) ≡ c .before .kept-extent .result .bytes + c .entry-size .result
+  bytes = omega (arith, set-length (args .ty) (args .value) entries, rest, new)
 
   number : length result ≡ c .before .kept-extent .result .entries + 1
   number = set-count (args .ty) (args .value) entries ∙ ap (λ (x : Extent). x .entries + 1) (sym (c .before .kept-extent .ensures .0))
@@ -78,13 +83,13 @@ returns-2 c = rw (c .refuse .ensures) (emit-refused _ _ _ _ _ (set-too-long _ _ 
 kept-extent-requires : tie.Need-kept-extent-requires
 kept-extent-requires c κs = short (c .before)
 
-size-of-requires : tie.Need-size-of-requires
-size-of-requires c κs = search needs
+entry-size-requires : tie.Need-entry-size-requires
+entry-size-requires c κs = tt
 
 add-need : tie.Need-add-need
 add-need c =
     let a = c .before .before .before .before .before .before .before .before .before .args in
-    omega (arith, short (c .before .before .before), c .size-of .ensures, c .before .kept-extent .ensures .1, size-bound (length (a .value .now)))
+    omega (arith, short (c .before .before .before), new c, c .before .kept-extent .ensures .1, size-bound (length (a .value .now)))
 
 refuse-requires-2 : tie.Need-refuse-requires-2
 refuse-requires-2 c κs = search needs
@@ -131,7 +136,7 @@ returns-6 c =
     let z = p .before .before .before .before .before .before in
     let whole = bytes z in
     let size = length-encode (args z .ty) (args z .value) in
-    let n = z .size-of .ensures in
+    let n = new z in
     let same = p .put-kept .kept .1 .1 .0 in
     let told = k .put-entry .ensures ∙ entry-placed _ _ _ _ (z .before .before .if1 .left) in
     let next = placed-next _ _ _ _ _ told (omega arith) in
@@ -153,7 +158,7 @@ set-last-spec =
     refuse-requires
     returns-2
     kept-extent-requires
-    size-of-requires
+    entry-size-requires
     add-need
     refuse-requires-2
     returns-3

@@ -1,26 +1,22 @@
--- The laws of setting a type, and of the sizes that its result must keep.
+-- The laws of setting a type.
 -- Assumes nothing.
-use mathlib.Core.Path.{_≡_, refl, sym, ap, _∙_}
-use mathlib.Core.List.{List, [], _∷_, _++_, append-assoc, append-nil}
+use mathlib.Core.Path.{_≡_, sym, ap, _∙_}
+use mathlib.Core.List.{List, [], _∷_, _++_, append-nil}
 use Prim.Native.Nat.{ℕ, _+_, _≤_, _<_}
 use lib.Dec.{ltb}
 use lib.ListN.{length, length-append}
 use borrow.Author.Tests.{lt-ltb, le-ltb}
-use Rattle.refusal.specs.Sizes.{mostBytes, mostEntries, mostValue}
+use Rattle.refusal.specs.Sizes.{mostValue}
 use Rattle.refusal.specs.Answer.{pick, given, refused}
 use Rattle.tlv.specs.Entries.{Content, content, contents, framing, Framing}
 use Rattle.tlv.specs.Limits.{count}
-use Rattle.tlv_writing.specs.Encode.{encode, sizeOf, encodeAll, kept, setLast, sized, withSet}
-use Rattle.tlv_writing.specs.declared.Choice.the-variants.{Without}
+use Rattle.tlv_writing.specs.Encode.{encode, sizeOf, encodeAll, sized}
+use Rattle.tlv_rewriting.specs.Rewrite.{kept, setLast, withSet}
+use Rattle.tlv_rewriting.specs.declared.Choice.the-variants.{Without}
 use Rattle.tlv.proofs.Walks.{from-start}
 use Rattle.tlv.proofs.Tally.{counted-given, counted-refused}
 use Rattle.tlv_writing.proofs.Encodes.{length-encode}
-
-pub encode-append : (cs ds : List Content) → encodeAll (cs ++ ds) ≡ encodeAll cs ++ encodeAll ds
-unfolding encodeAll
-encode-append [] ds = refl
-encode-append (c ∷ cs) ds =
-    ap (λ (l : List ℕ). encode (c .ty) (c .value) ++ l) (encode-append cs ds) ∙ sym (append-assoc (encode (c .ty) (c .value)) (encodeAll cs) (encodeAll ds))
+use Rattle.tlv_writing.proofs.Several.{encode-append}
 
 module _ (t : ℕ) (v : List ℕ) (cs : List Content) where
   pub set-bytes : encodeAll (setLast t v cs) ≡ encodeAll (kept (Without t) cs) ++ encode t v
@@ -35,19 +31,6 @@ module _ (t : ℕ) (v : List ℕ) (cs : List Content) where
   pub set-count : length (setLast t v cs) ≡ length (kept (Without t) cs) + 1
   unfolding setLast
   set-count = length-append (kept (Without t) cs) (content t v ∷ [])
-
-module _ (cs : List Content) where
-  pub sized-bytes : mostBytes < length (encodeAll cs) → refused 10 0 0 ≡ sized cs
-  unfolding sized
-  sized-bytes h = simp (lt-ltb _ _ h)
-
-  pub sized-count : length (encodeAll cs) ≤ mostBytes → mostEntries < length cs → refused 10 0 0 ≡ sized cs
-  unfolding sized
-  sized-count h k = simp (le-ltb _ _ h, lt-ltb _ _ k)
-
-  pub sized-is : length (encodeAll cs) ≤ mostBytes → length cs ≤ mostEntries → sized cs ≡ given (encodeAll cs)
-  unfolding sized
-  sized-is h k = simp (le-ltb _ _ h, le-ltb _ _ k)
 
 module _ (t : ℕ) (v s : List ℕ) where
   pub set-refused : (n p k : ℕ) → refused n p k ≡ count 0 s → refused n p k ≡ withSet t v s
