@@ -7,6 +7,7 @@ use native.Mathlib.Omega.{arith}
 use lib.ListN.{length}
 use borrow.Author.Needs.{needs}
 use borrow.Author.Tests.{lt-ltb, le-ltb}
+use Rattle.refusal.specs.Sizes.{mostBytes}
 use Rattle.tlv.specs.Limits.{count, framed}
 use Rattle.tlv.proofs.Walks.{from, turn-end, turn-cut, turn-entry, turn-inside}
 use Rattle.tlv.proofs.Tally.{tally, tally-start, tally-at, tally-off, tally-over, tally-fits, tally-cut}
@@ -21,7 +22,7 @@ abbrev μ-loop : tie.MeasureT-loop
 
 returns : tie.Need-returns Inv-loop μ-loop
 unfolding count framed
-returns c = simp (lt-ltb _ _ (c .if1 .taken))
+returns c = simp (lt-ltb mostBytes _ (c .if1 .taken))
 
 loop-holds : tie.Need-loop-holds Inv-loop μ-loop
 unfolding count framed
