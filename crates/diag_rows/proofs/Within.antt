@@ -12,7 +12,7 @@ use borrow.Author.Tests.{eqb-true, eqb-false}
 use Rattle.refusal.specs.Every.{Every}
 use Rattle.laws.proofs.Tests.{pick-all}
 use Rattle.diag_values.specs.Values.{byteAt}
-use Rattle.diag_values.specs.Mask.{assigned, routers, routersOf, routesFit}
+use Rattle.diag_values.specs.Mask.{bitOf, assigned, routers, routersOf, routesFit}
 use Rattle.diag_rows.specs.Routes.{maskOf, rowsOf, routeRows}
 use Rattle.diag_rows.specs.Rows.{listed, childAt, childRows, part, addresses, addressParts}
 use Rattle.diag_rows.specs.declared.ChildTableEntry.{ChildTableEntry}
@@ -139,7 +139,7 @@ sumFrom zero k v = 0
 sumFrom (suc n) k v = bitAt v k + sumFrom n (suc k) v
 
 count-is : (n k : ℕ) (v : List ℕ) → length (routers n k v) ≡ sumFrom n k v
-unfolding routers assigned
+unfolding routers bitOf
 count-is zero k v = refl
 count-is (suc n) k v =
     let rest = count-is n (suc k) v in

@@ -135,7 +135,7 @@ fn route_rows(v: &[u8]) -> [RouteDataEntry; 64]
     let mut k: usize = 0;
     while k < 64 {
         let next = k + 1;
-        if diag_values::assigned(v, k) {
+        if diag_values::assigns(v[1 + k / 8], k) {
             let row = route_row(k as u8, v[9 + n]);
             rows[n] = row;
             n += 1;
@@ -198,7 +198,7 @@ fn route_at(v: &[u8], k: usize) -> ReadRoute
     let mut i: usize = 0;
     while i < 64 {
         let next = i + 1;
-        if diag_values::assigned(v, i) {
+        if diag_values::assigns(v[1 + i / 8], i) {
             if v.len() <= at {
                 return ReadRoute::Absent;
             }

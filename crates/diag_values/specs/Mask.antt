@@ -9,9 +9,13 @@ use lib.Dec.{eqb, leb}
 use Rattle.refusal.specs.Answer.{pick}
 use Rattle.diag_values.specs.Values.{byteAt}
 
--- router k's bit: 8 routers a mask byte, the high bit first
-unfoldable pub assigned : List ℕ → ℕ → Bool
-assigned v k = eqb (byteAt v (1 + k / 8) / 2 ^ (7 - k % 8) % 2) 1
+-- router k's bit of its mask byte: the high bit first
+unfoldable pub bitOf : (byte k : ℕ) → Bool
+bitOf b k = eqb (b / 2 ^ (7 - k % 8) % 2) 1
+
+-- 8 routers a mask byte
+abbrev pub assigned : List ℕ → ℕ → Bool
+assigned v k = bitOf (byteAt v (1 + k / 8)) k
 
 -- the assigned ones of n routers from k on
 unfoldable pub routers : (n k : ℕ) → List ℕ → List ℕ

@@ -8,7 +8,7 @@ ghost use Prim.Native.Nat.{ℕ, _+_, _≤_};
 ghost use lib.ListN.{length};
 ghost use Rattle.refusal.specs.Answer.{onGiven};
 ghost use Rattle.diag_values.specs.Values.{byteAt, numberAt, modeOf, modeValue, leaderOf, countersOf, priorityOf, bufferOf, datagramsOf, connectivityOf};
-ghost use Rattle.diag_values.specs.Mask.{assigned, routersOf, routesFit};
+ghost use Rattle.diag_values.specs.Mask.{bitOf, routersOf, routesFit};
 ghost use Rattle.diag_values.specs.Rule.{keepsRule, valueOf};
 ghost use Rattle.diag_values.specs.Answers.{judgedAnswer, judged, optAnswer8, optAnswer16, answer8, modeAnswer, connectivityPaper, connectivityAnswer, leaderAnswer, countersAnswer};
 
@@ -151,15 +151,12 @@ fn u32_at(v: &[u8], at: usize) -> u32
     (u16_at(v, at) as u32) * 65536 + u16_at(v, at + 2) as u32
 }
 
-// Whether the mask of a Route64 assigns router k, from 0 to 63. Where the bytes end before its bit, it doesn't.
-pub fn assigned(v: &[u8], k: usize) -> bool
-    ensures { λ r. ⌜ r ≡ assigned (now (v .entry)) k ⌝ }
+// Whether a byte of a Route64's mask assigns router k, which is one of its eight.
+pub fn assigns(byte: u8, k: usize) -> bool
+    ensures { λ r. ⌜ r ≡ bitOf byte k ⌝ }
 {
-    if v.len() <= 1 + k / 8 {
-        return false;
-    }
     let shift = (7 - k % 8) as u8;
-    (v[1 + k / 8] >> shift) % 2 == 1
+    (byte >> shift) % 2 == 1
 }
 
 // How many routers it assigns.
@@ -171,7 +168,7 @@ fn count_routers(v: &[u8]) -> usize
     let mut k: usize = 0;
     while k < 64 {
         let next = k + 1;
-        if assigned(v, k) {
+        if assigns(v[1 + k / 8], k) {
             n += 1;
         }
         k = next;

@@ -6,7 +6,7 @@ use mathlib.Core.Path.{_≡_}
 use Prim.Native.Nat.{ℕ}
 use Rattle.diag_values.proofs.Papers.{connectivity-tells, counters-tells, judged-tells, leader-tells, mode-tells, read8-tells}
 use Rattle.diag_values.specs.Answers.{answer8, connectivityAnswer, countersAnswer, judged, judgedAnswer, leaderAnswer, modeAnswer}
-use Rattle.diag_values.specs.Mask.{assigned}
+use Rattle.diag_values.specs.Mask.{bitOf}
 use Rattle.diag_values.specs.Rule.{valueOf}
 use Rattle.diag_values.specs.Values.{byteAt, connectivityOf, countersOf, leaderOf, modeOf, modeValue}
 use Rattle.diag_values.specs.declared.Judged.{Judged}
@@ -20,9 +20,9 @@ use Rattle.refusal.specs.Answer.{onGiven}
 use Rattle.one_answer.specs.One.{One}
 use Rattle.one_answer.proofs.General.{one, one-itself}
 
--- diag_values::assigned
-pub assigned-one : (v : List ℕ) (k : ℕ) → One (λ (r : Bool). r ≡ assigned v k)
-assigned-one v k = one-itself _
+-- diag_values::assigns
+pub assigns : (byte k : ℕ) → One (λ (r : Bool). r ≡ bitOf byte k)
+assigns byte k = one-itself _
 
 -- diag_values::check_value
 pub check-value : (ty : ℕ) (value : List ℕ) (place : ℕ) → One (λ (r : Judged). judgedAnswer r ≡ judged (valueOf ty place value))

@@ -14,7 +14,7 @@ use Rattle.network_data.specs.Frame as frame
 use Rattle.network_data.specs.Walk as walk
 use Rattle.network_data.specs.Rules as rules
 use Rattle.network_data.specs.Decode as decode
-use Rattle.diag_values.specs.Mask.{assigned, routers, routersOf, routesFit}
+use Rattle.diag_values.specs.Mask.{bitOf, routers, routersOf, routesFit}
 use Rattle.diag_rows.specs.Routes.{rowsOf, routeRows}
 use Rattle.diag_rows.specs.Rows.{listed, childRows, timeoutSeconds}
 use Rattle.diag_values.specs.Rule.{keepsRule, valueOf}
@@ -26,6 +26,6 @@ unfolding beFrom be bytesOf valued long first contents step frames framing limit
     threshold withThreshold setOf removalOf firstOp opStep opsIn opsOf bare limitedOps operations about touches lasts setsOf removes removalsBelow
     types foldAll encodeOp encodeOps sizedOps folded perform runAll ran frame.subIn walk.step walk.walk walk.walkIn rules.headAt rules.ended
     rules.rules rules.checkIn rules.checkHead rules.checkPrefix rules.values rules.checkFrom rules.checkValue decode.placesIn decode.headItems
-    decode.inner decode.prefixAt decode.prefixes decode.contents decode.decodeNetworkData assigned routers routersOf routesFit rowsOf routeRows listed
+    decode.inner decode.prefixAt decode.prefixes decode.contents decode.decodeNetworkData bitOf routers routersOf routesFit rowsOf routeRows listed
     childRows timeoutSeconds keepsRule valueOf
 starred = all-hold sheet tt

@@ -26,12 +26,18 @@ loop-holds c = (c .before .pre, search needs, search needs, nth-same _ _ _ (row-
 add-next : tie.Need-add-next Inv-loop μ-loop
 add-next c = search needs
 
-assigned-requires : tie.Need-assigned-requires Inv-loop μ-loop
-assigned-requires c κs = tt
+add-assigns : tie.Need-add-assigns Inv-loop μ-loop
+add-assigns c = search needs
+
+shared-slice-read-assigns : tie.Need-shared-slice-read-assigns Inv-loop μ-loop
+shared-slice-read-assigns c = omega arith
+
+assigns-requires : tie.Need-assigns-requires Inv-loop μ-loop
+assigns-requires c κs = tt
 
 returns : tie.Need-returns Inv-loop μ-loop
 returns c =
-    let l = c .before .before .before .before .loop in
+    let l = c .before .before .before .before .before .loop in
     sym (nth-empty _ _ (row-out _ _ _ (c .if2 .taken))) ∙ l .inv .3
 
 cast-route-row : tie.Need-cast-route-row Inv-loop μ-loop
@@ -46,9 +52,11 @@ route-row-requires c κs = tt
 returns-2 : tie.Need-returns-2 Inv-loop μ-loop
 returns-2 c =
     let a = c .before .before .before .before .before in
-    let l = a .before .before .loop in
-    let t = a .before .loop-test .taken in
-    let hit = row-hit _ _ _ t (sym (a .assigned .ensures) ∙ c .before .before .before .before .if1 .taken) (c .before .before .before .if2 .left) in
+    let x = a .before .before .before in
+    let l = x .loop in
+    let v = x .before .before .args .v .now in
+    let t = a .before .before .loop-test .taken in
+    let hit = row-hit v _ _ t (sym (a .assigns .ensures) ∙ c .before .before .before .before .if1 .taken) (c .before .before .before .if2 .left) in
     ap given (c .route-row .ensures) ∙ sym (nth-head _ _ _ _ hit (c .before .before .if3 .taken)) ∙ l .inv .3
 
 sub-left : tie.Need-sub-left Inv-loop μ-loop
@@ -63,9 +71,11 @@ loop-less c = omega arith
 loop-again : tie.Need-loop-again Inv-loop μ-loop
 loop-again c =
     let a = c .before .before .before in
-    let l = a .before .before .loop in
-    let t = a .before .loop-test .taken in
-    let hit = row-hit _ _ _ t (sym (a .assigned .ensures) ∙ c .before .before .if1 .taken) (c .before .if2 .left) in
+    let x = a .before .before .before in
+    let l = x .loop in
+    let v = x .before .before .args .v .now in
+    let t = a .before .before .loop-test .taken in
+    let hit = row-hit v _ _ t (sym (a .assigns .ensures) ∙ c .before .before .if1 .taken) (c .before .if2 .left) in
     (l .inv .0, omega arith, omega arith, sym (nth-tail _ _ _ _ hit (c .if3 .left)) ∙ l .inv .3)
 
 loop-less-2 : tie.Need-loop-less-2 Inv-loop μ-loop
@@ -74,9 +84,11 @@ loop-less-2 c = omega arith
 loop-again-2 : tie.Need-loop-again-2 Inv-loop μ-loop
 loop-again-2 c =
     let a = c .before in
-    let l = a .before .before .loop in
-    let t = a .before .loop-test .taken in
-    (l .inv .0, omega arith, omega arith, nth-same _ _ _ (sym (row-miss _ _ _ t (sym (a .assigned .ensures) ∙ c .if1 .left))) ∙ l .inv .3)
+    let x = a .before .before .before in
+    let l = x .loop in
+    let v = x .before .before .args .v .now in
+    let t = a .before .before .loop-test .taken in
+    (l .inv .0, omega arith, omega arith, nth-same _ _ _ (sym (row-miss v _ _ t (sym (a .assigns .ensures) ∙ c .if1 .left))) ∙ l .inv .3)
 
 returns-3 : tie.Need-returns-3 Inv-loop μ-loop
 returns-3 c = sym (nth-empty _ _ (row-end _ _ _ (c .loop-test .left))) ∙ c .before .loop .inv .3
@@ -89,7 +101,9 @@ route-at-spec =
     μ-loop
     loop-holds
     add-next
-    assigned-requires
+    add-assigns
+    shared-slice-read-assigns
+    assigns-requires
     returns
     cast-route-row
     shared-slice-read-route-row

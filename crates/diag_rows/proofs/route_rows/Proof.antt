@@ -30,8 +30,14 @@ loop-holds c =
 add-next : tie.Need-add-next Inv-loop μ-loop
 add-next c = search needs
 
-assigned-requires : tie.Need-assigned-requires Inv-loop μ-loop
-assigned-requires c κs = search needs
+add-assigns : tie.Need-add-assigns Inv-loop μ-loop
+add-assigns c = search needs
+
+shared-slice-read-assigns : tie.Need-shared-slice-read-assigns Inv-loop μ-loop
+shared-slice-read-assigns c = omega arith
+
+assigns-requires : tie.Need-assigns-requires Inv-loop μ-loop
+assigns-requires c κs = tt
 
 cast-route-row : tie.Need-cast-route-row Inv-loop μ-loop
 cast-route-row c = search needs
@@ -42,8 +48,10 @@ add-route-row c = search needs
 shared-slice-read-route-row : tie.Need-shared-slice-read-route-row Inv-loop μ-loop
 shared-slice-read-route-row c =
     let a = c .before .before in
-    let l = a .before .before .loop in
-    let e = ap length (rest-hit (l .k) _ (a .before .loop-test .taken) (sym (a .assigned .ensures) ∙ c .before .if1 .taken)) in
+    let x = a .before .before .before in
+    let l = x .loop in
+    let v = x .before .before .before .args .v .now in
+    let e = ap length (rest-hit (l .k) v (a .before .before .loop-test .taken) (sym (a .assigns .ensures) ∙ c .before .if1 .taken)) in
     omega arith
 
 route-row-requires-2 : tie.Need-route-row-requires-2 Inv-loop μ-loop
@@ -65,15 +73,17 @@ loop-again : tie.Need-loop-again Inv-loop μ-loop
 loop-again c =
     let b = c .before .before in
     let a = b .before in
-    let l = a .before .before .loop in
-    let on = sym (a .assigned .ensures) ∙ b .if1 .taken in
-    let t = a .before .loop-test .taken in
-    let e = ap length (rest-hit (l .k) _ t on) in (
+    let x = a .before .before .before in
+    let l = x .loop in
+    let v = x .before .before .before .args .v .now in
+    let on = sym (a .assigns .ensures) ∙ b .if1 .taken in
+    let t = a .before .before .loop-test .taken in
+    let e = ap length (rest-hit (l .k) v t on) in (
       omega arith,
       omega arith,
       simp length-set (l .inv .2),
       omega arith,
-      rw (c .route-row2 .ensures) (laid-hit _ _ _ _ t on (omega arith) (l .inv .4)),
+      rw (c .route-row2 .ensures) (laid-hit v _ _ _ t on (omega arith) (l .inv .4)),
     )
 
 loop-less-2 : tie.Need-loop-less-2 Inv-loop μ-loop
@@ -82,11 +92,13 @@ loop-less-2 c = search needs
 loop-again-2 : tie.Need-loop-again-2 Inv-loop μ-loop
 loop-again-2 c =
     let a = c .before in
-    let l = a .before .before .loop in
-    let off = sym (a .assigned .ensures) ∙ c .if1 .left in
-    let t = a .before .loop-test .taken in
-    let e = ap length (rest-miss (l .k) _ t off) in
-    (omega arith, omega arith, l .inv .2, omega arith, laid-miss _ _ _ _ t off (l .inv .4))
+    let x = a .before .before .before in
+    let l = x .loop in
+    let v = x .before .before .before .args .v .now in
+    let off = sym (a .assigns .ensures) ∙ c .if1 .left in
+    let t = a .before .before .loop-test .taken in
+    let e = ap length (rest-miss (l .k) v t off) in
+    (omega arith, omega arith, l .inv .2, omega arith, laid-miss v _ _ _ t off (l .inv .4))
 
 returns : tie.Need-returns Inv-loop μ-loop
 returns c = laid-end _ _ _ _ (c .loop-test .left) (c .before .loop .inv .4)
@@ -100,7 +112,9 @@ route-rows-spec =
     route-row-requires
     loop-holds
     add-next
-    assigned-requires
+    add-assigns
+    shared-slice-read-assigns
+    assigns-requires
     cast-route-row
     add-route-row
     shared-slice-read-route-row

@@ -22,8 +22,14 @@ loop-holds c = let e = ap length (rest-all (c .before .args .v .now)) in (c .bef
 add-next : tie.Need-add-next Inv-loop μ-loop
 add-next c = search needs
 
-assigned-requires : tie.Need-assigned-requires Inv-loop μ-loop
-assigned-requires c κs = search needs
+add-assigns : tie.Need-add-assigns Inv-loop μ-loop
+add-assigns c = search needs
+
+shared-slice-read-assigns : tie.Need-shared-slice-read-assigns Inv-loop μ-loop
+shared-slice-read-assigns c = omega arith
+
+assigns-requires : tie.Need-assigns-requires Inv-loop μ-loop
+assigns-requires c κs = tt
 
 add-n : tie.Need-add-n Inv-loop μ-loop
 add-n c = search needs
@@ -33,8 +39,8 @@ loop-less c = search needs
 
 loop-again : tie.Need-loop-again Inv-loop μ-loop
 loop-again c =
-    let l = c .before .before .before .loop in
-    let e = ap length (rest-hit (l .k) _ (c .before .before .loop-test .taken) (sym (c .before .assigned .ensures) ∙ c .if1 .taken)) in
+    let l = c .before .before .before .before .loop in
+    let e = ap length (rest-hit (l .k) (c .before .before .before .before .before .before .args .v .now) (c .before .before .before .loop-test .taken) (sym (c .before .assigns .ensures) ∙ c .if1 .taken)) in
     (l .inv .0, omega arith, omega arith, omega arith)
 
 loop-less-2 : tie.Need-loop-less-2 Inv-loop μ-loop
@@ -42,8 +48,8 @@ loop-less-2 c = search needs
 
 loop-again-2 : tie.Need-loop-again-2 Inv-loop μ-loop
 loop-again-2 c =
-    let l = c .before .before .before .loop in
-    let e = ap length (rest-miss (l .k) _ (c .before .before .loop-test .taken) (sym (c .before .assigned .ensures) ∙ c .if1 .left)) in
+    let l = c .before .before .before .before .loop in
+    let e = ap length (rest-miss (l .k) (c .before .before .before .before .before .before .args .v .now) (c .before .before .before .loop-test .taken) (sym (c .before .assigns .ensures) ∙ c .if1 .left)) in
     (l .inv .0, omega arith, omega arith, omega arith)
 
 returns : tie.Need-returns Inv-loop μ-loop
@@ -57,7 +63,9 @@ count-routers-spec =
     μ-loop
     loop-holds
     add-next
-    assigned-requires
+    add-assigns
+    shared-slice-read-assigns
+    assigns-requires
     add-n
     loop-less
     loop-again
