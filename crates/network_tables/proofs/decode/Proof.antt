@@ -300,9 +300,9 @@ module _ {M : Type 1} (𝓤 : URA M) (H : Heap 𝓤) (A : Atoms 𝓤) (W : Given
         move ! (37 ∷ []) $ fsplit ! $ move ! (1 ∷ []) $ fsplit ! $ move ! (1 ∷ []) $ fsplit ! $ move ! (1 ∷ []) $ fsplit ! $ move ! (1 ∷ []) $ drop ! $
         move ! (40 ∷ []) $ split ! $ move ! (1 ∷ []) $ split ! $ move ! (1 ∷ []) $ split ! $ move ! (1 ∷ []) $ split ! $ move ! (4 ∷ 1 ∷ []) $ join ! $ move ! (0 ∷ 7 ∷ []) $
         -- [bytes's token; bytes; the tokens of borders, routes, prefixes; borders; routes; prefixes; _17 at 8; …; _0 at 42]
-        assigns ! (of-opd ! (load ! (from ! (fld ! refl (stop !))) (look-in ! 38 (sub ! 1 refl (whole !))))) (from ! (stop !)) (init ! 26 refl (tt, record { fits = p-room .0 })) $
-        assigns ! (of-opd ! (load ! (from ! (fld ! refl (stop !))) (look-in ! 36 (sub ! 1 refl (whole !))))) (from ! (stop !)) (init ! 24 refl (tt, record { fits = h-room .0 })) $
-        assigns ! (of-opd ! (load ! (from ! (fld ! refl (stop !))) (look-in ! 34 (sub ! 1 refl (whole !))))) (from ! (stop !)) (init ! 22 refl (tt, record { fits = b-room .0 })) $
+        assigns ! (of-opd ! (load ! (from ! (fld ! {d = 8} refl (stop !))) (look-in ! 38 (sub ! 1 {d = 8} refl (whole !))))) (from ! (stop !)) (init ! 26 refl (tt, record { fits = p-room .0 })) $
+        assigns ! (of-opd ! (load ! (from ! (fld ! {d = 8} refl (stop !))) (look-in ! 36 (sub ! 1 {d = 8} refl (whole !))))) (from ! (stop !)) (init ! 24 refl (tt, record { fits = h-room .0 })) $
+        assigns ! (of-opd ! (load ! (from ! (fld ! {d = 8} refl (stop !))) (look-in ! 34 (sub ! 1 {d = 8} refl (whole !))))) (from ! (stop !)) (init ! 22 refl (tt, record { fits = b-room .0 })) $
         use2 W (raw (Plan-for 𝓤 H A mem run .pre to-plan) ⊛ ‵ OwnY) asks-plan $ split ! $
         calls-at ! (fmOf 𝓤 H (W .laws) 𝓣) (Plan-for 𝓤 H A mem run) known-plan to-plan (and-then ! (load ! (from ! (stop !)) (look ! 40 refl)) (and-then ! (load ! (from ! (stop !)) (look ! 26 refl)) (and-then ! (load ! (from ! (stop !)) (look ! 24 refl)) (and-then ! (load ! (from ! (stop !)) (look ! 22 refl)) (no-more !))))) (λ w₁.
         use1 W (later (some (λ (p : Plan). ((‵ (flft κy qy) ⊛ ‵ ftrue) ⊛ ‵ (P.the-row .own p (w₁ ∷ []))) ⊛ raw (ensured 𝓤 H A plan.ended (plan.clauses 𝓤 H A mem run) (κy, tt) plan-args tt p)))) (id⊢ 𝓤 _) $ await ! tt $ picks ! (λ p.
@@ -325,11 +325,11 @@ module _ {M : Type 1} (𝓤 : URA M) (H : Heap 𝓤) (A : Atoms 𝓤) (W : Given
         land ! (from ! (stop !)) (init ! 29 refl (LL.lawful K.the-type K′.the-laws 𝓤 H A W .typed v _ isv .0)) $
         rewrite ! 29 (λ (x : Val). ‵ (fat fullShare K′.mir l₇ 0 x)) (ap only (LL.tells K.the-type K′.the-laws v (w₃ ∷ []) isv)) refl $ drop ! $
         -- the table p is lent on for good: its pointer and its count go into a new slice reference
-        assigns ! (addr ! (from ! (fld ! refl (hop ! (look-in ! 38 (sub ! 0 refl (whole !))) (stop !))))) (from ! (stop !)) (init ! 20 refl (tt, tt)) $
-        assigns ! (agg ! (and-then ! (load ! (from ! (stop !)) (look ! 20 refl)) (and-then ! (load ! (from ! (fld ! refl (stop !))) (look-in ! 38 (sub ! 1 refl (whole !)))) (no-more !)))) (from ! (stop !)) (init ! 18 refl (tt, (tt, (record { fits = p-room .0 }, tt)))) $
+        assigns ! (addr ! (from ! (fld ! {d = 0} refl (hop ! (look-in ! 38 (sub ! 0 {d = 0} refl (whole !))) (stop !))))) (from ! (stop !)) (init ! 20 refl (tt, tt)) $
+        assigns ! (agg ! (and-then ! (load ! (from ! (stop !)) (look ! 20 refl)) (and-then ! (load ! (from ! (fld ! {d = 8} refl (stop !))) (look-in ! 38 (sub ! 1 {d = 8} refl (whole !)))) (no-more !)))) (from ! (stop !)) (init ! 18 refl (tt, (tt, (record { fits = p-room .0 }, tt)))) $
         move ! (4 ∷ 0 ∷ []) $ join ! $ move ! (0 ∷ 1 ∷ 6 ∷ []) $ use3 W (raw (Fill-p 𝓤 H A mem run .pre (to-p p (isP p w₁ isp) e u v (isK u w₂ isu) (isK v w₃ isv) eu ev)) ⊛ ‵ OwnY) (asks-p p (isP p w₁ isp) e u v (isK u w₂ isu) (isK v w₃ isv) eu ev) $ split ! $
         calls-at ! (fmOf 𝓤 H (W .laws) 𝓣) (Fill-p 𝓤 H A mem run) known-fill-p (to-p p (isP p w₁ isp) e u v (isK u w₂ isu) (isK v w₃ isv) eu ev)
-        (and-then ! (load ! (from ! (stop !)) (look ! 16 refl)) (and-then ! (lit ! tt) (and-then ! (load ! (from ! (stop !)) (look ! 38 refl)) (and-then ! (load ! (from ! (fld ! refl (stop !))) (look-in ! 30 (sub ! 1 refl (whole !)))) (and-then ! (lit ! tt) (no-more !)))))) (λ w₄.
+        (and-then ! (load ! (from ! (stop !)) (look ! 16 refl)) (and-then ! (lit ! tt) (and-then ! (load ! (from ! (stop !)) (look ! 38 refl)) (and-then ! (load ! (from ! (fld ! {d = 32} refl (stop !))) (look-in ! 30 (sub ! 1 {d = 32} refl (whole !)))) (and-then ! (lit ! tt) (no-more !)))))) (λ w₄.
         use1 W (later (some (λ (z₁ : ℕ). ((‵ (flft κp qp) ⊛ ‵ (flft κy qy) ⊛ ‵ ftrue) ⊛ ‵ (usize .own z₁ (w₄ ∷ []))) ⊛ raw (ensured 𝓤 H A fill-p.ended (fill-p.clauses 𝓤 H A mem run) (κp, (κy, tt)) (args-p p (isP p w₁ isp) e u v (isK u w₂ isu) (isK v w₃ isv) eu ev) tt z₁)))) (id⊢ 𝓤 _) $ await ! tt $ picks ! (λ z₁.
         split ! $ move ! (1 ∷ []) $ use1 W (some (λ (wsp : List PrefixEntry × (Unit {0} × (Unit {0} × (Unit {0} × (Unit {0} × Unit {0}))))). ‵ (lasts fill-p.ended (κp, (κy, tt)) (args-p p (isP p w₁ isp) e u v (isK u w₂ isu) (isK v w₃ isv) eu ev) wsp) ⊛ raw (fact 𝓤 ((z₁ ≡ steps (spanEnd s) (p .prefixes) 0) × (wsp .0 ≡ take 0 (xp .now) ++ (tab (λ i. entryAt s (steps (spanEnd s) i 0)) (p .prefixes) ++ dropᴸ (0 + p .prefixes) (xp .now))))))) (id⊢ 𝓤 _) $ picks ! (λ wsp.
         split ! $ move ! (1 ∷ []) $ heard ! ((z₁ ≡ steps (spanEnd s) (p .prefixes) 0) × (wsp .0 ≡ take 0 (xp .now) ++ (tab (λ i. entryAt s (steps (spanEnd s) i 0)) (p .prefixes) ++ dropᴸ (0 + p .prefixes) (xp .now)))) (λ ep. fsplit ! $ fsplit ! $ move ! (1 ∷ []) $ feqL ! (λ lp.
@@ -338,11 +338,11 @@ module _ {M : Type 1} (𝓤 : URA M) (H : Heap 𝓤) (A : Atoms 𝓤) (W : Given
         split ! $ move ! (3 ∷ []) $ drop ! $
         move ! (1 ∷ 3 ∷ 4 ∷ 5 ∷ 6 ∷ 7 ∷ 0 ∷ 2 ∷ []) $
         -- the table h is lent on for good: its pointer and its count go into a new slice reference
-        assigns ! (addr ! (from ! (fld ! refl (hop ! (look-in ! 36 (sub ! 0 refl (whole !))) (stop !))))) (from ! (stop !)) (init ! 14 refl (tt, tt)) $
-        assigns ! (agg ! (and-then ! (load ! (from ! (stop !)) (look ! 14 refl)) (and-then ! (load ! (from ! (fld ! refl (stop !))) (look-in ! 36 (sub ! 1 refl (whole !)))) (no-more !)))) (from ! (stop !)) (init ! 12 refl (tt, (tt, (record { fits = h-room .0 }, tt)))) $
+        assigns ! (addr ! (from ! (fld ! {d = 0} refl (hop ! (look-in ! 36 (sub ! 0 {d = 0} refl (whole !))) (stop !))))) (from ! (stop !)) (init ! 14 refl (tt, tt)) $
+        assigns ! (agg ! (and-then ! (load ! (from ! (stop !)) (look ! 14 refl)) (and-then ! (load ! (from ! (fld ! {d = 8} refl (stop !))) (look-in ! 36 (sub ! 1 {d = 8} refl (whole !)))) (no-more !)))) (from ! (stop !)) (init ! 12 refl (tt, (tt, (record { fits = h-room .0 }, tt)))) $
         move ! (3 ∷ 0 ∷ []) $ join ! $ move ! (0 ∷ 1 ∷ 4 ∷ []) $ use3 W (raw (Fill-h 𝓤 H A mem run .pre (to-h p (isP p w₁ isp) e u v (isK u w₂ isu) (isK v w₃ isv) eu ev)) ⊛ ‵ OwnY) (asks-h p (isP p w₁ isp) e u v (isK u w₂ isu) (isK v w₃ isv) eu ev) $ split ! $
         calls-at ! (fmOf 𝓤 H (W .laws) 𝓣) (Fill-h 𝓤 H A mem run) known-fill-h (to-h p (isP p w₁ isp) e u v (isK u w₂ isu) (isK v w₃ isv) eu ev)
-        (and-then ! (load ! (from ! (stop !)) (look ! 10 refl)) (and-then ! (lit ! tt) (and-then ! (load ! (from ! (stop !)) (look ! 38 refl)) (and-then ! (load ! (from ! (fld ! refl (stop !))) (look-in ! 30 (sub ! 2 refl (whole !)))) (and-then ! (load ! (from ! (stop !)) (look ! 28 refl)) (no-more !)))))) (λ w₅.
+        (and-then ! (load ! (from ! (stop !)) (look ! 10 refl)) (and-then ! (lit ! tt) (and-then ! (load ! (from ! (stop !)) (look ! 38 refl)) (and-then ! (load ! (from ! (fld ! {d = 40} refl (stop !))) (look-in ! 30 (sub ! 2 {d = 40} refl (whole !)))) (and-then ! (load ! (from ! (stop !)) (look ! 28 refl)) (no-more !)))))) (λ w₅.
         use1 W (later (some (λ (z₂ : Rows). ((‵ (flft κh qh) ⊛ ‵ (flft κy qy) ⊛ ‵ ftrue) ⊛ ‵ (K.the-row .own z₂ (w₅ ∷ []))) ⊛ raw (ensured 𝓤 H A fill-h.ended (fill-h.clauses 𝓤 H A mem run) (κh, (κy, tt)) (args-h p (isP p w₁ isp) e u v (isK u w₂ isu) (isK v w₃ isv) eu ev) tt z₂)))) (id⊢ 𝓤 _) $ await ! tt $ picks ! (λ z₂.
         split ! $ move ! (1 ∷ []) $ use1 W (some (λ (wsh : List HasRouteEntry × (Unit {0} × (Unit {0} × (Unit {0} × (Unit {0} × Unit {0}))))). ‵ (lasts fill-h.ended (κh, (κy, tt)) (args-h p (isP p w₁ isp) e u v (isK u w₂ isu) (isK v w₃ isv) eu ev) wsh) ⊛ raw (fact 𝓤 ((z₂ ≡ steps (nextRow 0 3 s) (p .«has_routes») u) × (wsh .0 ≡ take 0 (xh .now) ++ (tab (λ i. routeOf s (steps (nextRow 0 3 s) i u)) (p .«has_routes») ++ dropᴸ (0 + p .«has_routes») (xh .now))))))) (id⊢ 𝓤 _) $ picks ! (λ wsh.
         split ! $ move ! (1 ∷ []) $ heard ! ((z₂ ≡ steps (nextRow 0 3 s) (p .«has_routes») u) × (wsh .0 ≡ take 0 (xh .now) ++ (tab (λ i. routeOf s (steps (nextRow 0 3 s) i u)) (p .«has_routes») ++ dropᴸ (0 + p .«has_routes») (xh .now)))) (λ eh. fsplit ! $ fsplit ! $ move ! (1 ∷ []) $ feqL ! (λ lh.
@@ -351,11 +351,11 @@ module _ {M : Type 1} (𝓤 : URA M) (H : Heap 𝓤) (A : Atoms 𝓤) (W : Given
         split ! $ move ! (3 ∷ []) $ drop ! $
         move ! (1 ∷ 3 ∷ 4 ∷ 5 ∷ 6 ∷ 7 ∷ 0 ∷ 2 ∷ []) $
         -- the table b is lent on for good: its pointer and its count go into a new slice reference
-        assigns ! (addr ! (from ! (fld ! refl (hop ! (look-in ! 34 (sub ! 0 refl (whole !))) (stop !))))) (from ! (stop !)) (init ! 10 refl (tt, tt)) $
-        assigns ! (agg ! (and-then ! (load ! (from ! (stop !)) (look ! 10 refl)) (and-then ! (load ! (from ! (fld ! refl (stop !))) (look-in ! 34 (sub ! 1 refl (whole !)))) (no-more !)))) (from ! (stop !)) (init ! 8 refl (tt, (tt, (record { fits = b-room .0 }, tt)))) $
+        assigns ! (addr ! (from ! (fld ! {d = 0} refl (hop ! (look-in ! 34 (sub ! 0 {d = 0} refl (whole !))) (stop !))))) (from ! (stop !)) (init ! 10 refl (tt, tt)) $
+        assigns ! (agg ! (and-then ! (load ! (from ! (stop !)) (look ! 10 refl)) (and-then ! (load ! (from ! (fld ! {d = 8} refl (stop !))) (look-in ! 34 (sub ! 1 {d = 8} refl (whole !)))) (no-more !)))) (from ! (stop !)) (init ! 8 refl (tt, (tt, (record { fits = b-room .0 }, tt)))) $
         move ! (2 ∷ 0 ∷ []) $ join ! $ use3 W (raw (Fill-b 𝓤 H A mem run .pre (to-b p (isP p w₁ isp) e u v (isK u w₂ isu) (isK v w₃ isv) eu ev)) ⊛ ‵ OwnY) (asks-b p (isP p w₁ isp) e u v (isK u w₂ isu) (isK v w₃ isv) eu ev) $ split ! $
         calls-at ! (fmOf 𝓤 H (W .laws) 𝓣) (Fill-b 𝓤 H A mem run) known-fill-b (to-b p (isP p w₁ isp) e u v (isK u w₂ isu) (isK v w₃ isv) eu ev)
-        (and-then ! (load ! (from ! (stop !)) (look ! 6 refl)) (and-then ! (lit ! tt) (and-then ! (load ! (from ! (stop !)) (look ! 38 refl)) (and-then ! (load ! (from ! (fld ! refl (stop !))) (look-in ! 30 (sub ! 3 refl (whole !)))) (and-then ! (load ! (from ! (stop !)) (look ! 26 refl)) (no-more !)))))) (λ w₆.
+        (and-then ! (load ! (from ! (stop !)) (look ! 6 refl)) (and-then ! (lit ! tt) (and-then ! (load ! (from ! (stop !)) (look ! 38 refl)) (and-then ! (load ! (from ! (fld ! {d = 48} refl (stop !))) (look-in ! 30 (sub ! 3 {d = 48} refl (whole !)))) (and-then ! (load ! (from ! (stop !)) (look ! 26 refl)) (no-more !)))))) (λ w₆.
         use1 W (later (some (λ (z₃ : Rows). ((‵ (flft κb qb) ⊛ ‵ (flft κy qy) ⊛ ‵ ftrue) ⊛ ‵ (K.the-row .own z₃ (w₆ ∷ []))) ⊛ raw (ensured 𝓤 H A fill-b.ended (fill-b.clauses 𝓤 H A mem run) (κb, (κy, tt)) (args-b p (isP p w₁ isp) e u v (isK u w₂ isu) (isK v w₃ isv) eu ev) tt z₃)))) (id⊢ 𝓤 _) $ await ! tt $ picks ! (λ z₃.
         split ! $ move ! (1 ∷ []) $ use1 W (some (λ (wsb : List BorderRouterEntry × (Unit {0} × (Unit {0} × (Unit {0} × (Unit {0} × Unit {0}))))). ‵ (lasts fill-b.ended (κb, (κy, tt)) (args-b p (isP p w₁ isp) e u v (isK u w₂ isu) (isK v w₃ isv) eu ev) wsb) ⊛ raw (fact 𝓤 ((z₃ ≡ steps (nextRow 2 4 s) (p .«border_routers») v) × (wsb .0 ≡ take 0 (xb .now) ++ (tab (λ i. borderOf s (steps (nextRow 2 4 s) i v)) (p .«border_routers») ++ dropᴸ (0 + p .«border_routers») (xb .now))))))) (id⊢ 𝓤 _) $ picks ! (λ wsb.
         split ! $ move ! (1 ∷ []) $ heard ! ((z₃ ≡ steps (nextRow 2 4 s) (p .«border_routers») v) × (wsb .0 ≡ take 0 (xb .now) ++ (tab (λ i. borderOf s (steps (nextRow 2 4 s) i v)) (p .«border_routers») ++ dropᴸ (0 + p .«border_routers») (xb .now)))) (λ eb. fsplit ! $ fsplit ! $ move ! (1 ∷ []) $ feqL ! (λ lb.
