@@ -17,7 +17,7 @@ use diag_values::OptU16;
 ghost use mathlib.Core.Path.{_≡_};
 ghost use Rattle.diag_values.specs.Answers.{optAnswer8, optAnswer16, connectivityPaper};
 ghost use Rattle.diag.specs.Answers.{optAnswer32, optMode, optConnectivity, optLeaderData, optMacCounters, optPart, optNetworkData, diagOf};
-ghost use Rattle.payload_sums.specs.Sums.{plus, orZero, number, flag, rank, modeSum, connectivitySum, leaderSum, countersSum, countsSum, networkSum, partLen, valuesSum, partsSum};
+ghost use Rattle.payload_sums.specs.Sums.{plus, orZero, number, flag, rank, modeSum, connectivitySum, leaderSum, countersSum, networkSum, partLen, valuesSum, partsSum};
 
 pub(crate) fn plus(a: u64, b: u64) -> u64
     ensures { λ r. ⌜ r ≡ plus a b ⌝ }

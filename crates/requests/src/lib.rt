@@ -46,7 +46,7 @@ pub struct Values {
     values: [Value; MOST_VALUES],
 }
 
-// The lesser of two numbers, or the second.
+// The lesser of two numbers.
 pub fn least(a: usize, b: usize) -> usize
     ensures { λ r. ⌜ r ≤ b ⌝ }
 {

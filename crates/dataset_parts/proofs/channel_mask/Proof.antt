@@ -1,4 +1,4 @@
--- `dataset::channel_mask` meets its contract, by what `last_entry` answered.
+-- `dataset_parts::channel_mask` meets its contract, by what `last_entry` answered.
 -- Assumes nothing.
 use mathlib.Core.Path.{_∙_}
 use native.Mathlib.Omega.{arith}

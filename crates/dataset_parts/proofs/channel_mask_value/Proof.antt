@@ -1,4 +1,4 @@
--- `dataset::channel_mask_value` meets its contract: the mask is the last value of its type where its items are whole.
+-- `dataset_parts::channel_mask_value` meets its contract: the mask is the last value of its type where its items are whole.
 -- Assumes nothing.
 use mathlib.Core.Path.{_∙_}
 use Rattle.dataset_parts.proofs.Keeps.{mask-value, mask-none}

@@ -1,4 +1,4 @@
--- `dataset::network_name` meets its contract, by what `last_entry` and then `check_name` answered.
+-- `dataset_parts::network_name` meets its contract, by what `last_entry` and then `check_name` answered.
 -- Assumes nothing.
 use mathlib.Core.Path.{ap}
 use native.Mathlib.Omega.{arith}

@@ -1,4 +1,4 @@
--- `dataset::network_name_value` meets its contract: the name that is found is a part of the input.
+-- `dataset_parts::network_name_value` meets its contract: the name that is found is a part of the input.
 -- Assumes nothing.
 use native.Mathlib.Omega.{arith}
 use native.Mathlib.Nat.{add-sub-cancel-left}
