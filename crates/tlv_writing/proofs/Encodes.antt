@@ -1,6 +1,7 @@
 -- The laws of `encode`: the header's two forms, its length, the stores that write it, and when an entry is written.
 -- Assumes nothing.
 use mathlib.Core.Path.{_≡_, sym, ap, _∙_}
+use mathlib.Core.Bool.{Bool}
 use mathlib.Core.List.{List, [], _∷_}
 use Prim.Native.Nat.{ℕ, _+_, _≤_, _<_, _/_, _%_}
 use native.Mathlib.Omega.{arith}
@@ -9,7 +10,7 @@ use lib.Dec.{leb}
 use lib.ListN.{length, set, length-append}
 use borrow.Author.Tests.{le-leb, lt-leb, leb-true, leb-false, lt-ltb, le-ltb}
 use Rattle.refusal.specs.Sizes.{mostShort, mostValue}
-use Rattle.refusal.specs.Answer.{given, refused}
+use Rattle.refusal.specs.Answer.{pick, given, refused}
 use Rattle.refusal.specs.Output.{put, placing, placed}
 use Rattle.laws.proofs.Tests.{by-test}
 use Rattle.laws.proofs.Puts.{put-then, put-length}
@@ -19,7 +20,7 @@ use Rattle.tlv_writing.specs.Encode.{header, encode, sizeOf, entrySize, 
 module _ (t n : ℕ) where
   pub header-short : n ≤ mostShort → header t n ≡ t ∷ n ∷ []
   unfolding header
-  header-short h = simp (le-leb _ _ h)
+  header-short h = ap (λ (b : Bool). pick b (t ∷ n ∷ []) (t ∷ 255 ∷ (n / 256) ∷ (n % 256) ∷ [])) (le-leb n mostShort h)
 
   pub header-long : mostShort < n → header t n ≡ t ∷ 255 ∷ (n / 256) ∷ (n % 256) ∷ []
   unfolding header
