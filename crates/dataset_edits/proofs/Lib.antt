@@ -1,3 +1,1 @@
-pub mod Hexes
 pub mod ReadBack
-pub mod HexRound

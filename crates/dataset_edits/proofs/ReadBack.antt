@@ -20,9 +20,9 @@ use Rattle.tlv_writing.specs.Encode.{encodeAll, sized}
 use Rattle.tlv_rewriting.specs.Rewrite.{keepsOf, kept, rewritten, setLast, withSet}
 use Rattle.tlv_rewriting.specs.declared.Choice.{Choice}
 use Rattle.tlv_rewriting.specs.declared.Choice.the-variants.{All, Without}
-use Rattle.tlv_writing.proofs.Round.{given-entries, parse-written}
+use Rattle.tlv_writing.proofs.Round.{given-bytes, given-entries, parse-written}
 use Rattle.laws.proofs.Answers.{gives}
-use Rattle.dataset_edits.proofs.Hexes.{rewritten-fits}
+use Rattle.tlv_rewriting.proofs.Kept.{rewritten-length}
 
 -- ---- the last value of a type, by what the entries say
 
@@ -160,6 +160,13 @@ module _ (t : ℕ) (v s bs : List ℕ) (done : withSet t v s ≡ given bs) where
     pub set-other-values : lastValue ty bs ≡ lastValue ty s
     unfolding lastValue
     set-other-values = or-by (lastEntry ty 0 bs) ∙ ap bytesOr set-others ∙ sym (or-by (lastEntry ty 0 s))
+
+-- what is kept of a dataset, written afresh, is within the size
+pub rewritten-fits : (c : Choice) (s bs : List ℕ) → Bytes s → rewritten c s ≡ given bs → length bs ≤ mostBytes
+unfolding rewritten
+rewritten-fits c s bs b e =
+    let es = gives _ (framed 0 s) bs e in
+    omega (arith, rewritten-length c s bs b e, given-bytes 0 s (es .one) (es .is))
 
 kept-count : (c : Choice) (es : List Entry) → length (kept c (contents es)) ≤ length es
 unfolding kept contents

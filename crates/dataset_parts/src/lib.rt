@@ -1,47 +1,18 @@
-// A dataset (dataset.rs): what is handed out as a part of it: a value as it is, the PSKc, the network name, the channel mask.
+// A dataset (dataset.rs): the network name and the channel mask, which are handed out as parts of it where they are good.
 use channel_masks::ReadMask;
 use plain_values::Checked;
 use plain_values::check_name;
 use tlv::Found;
 ghost use mathlib.Core.Path.{_≡_};
 ghost use Rattle.refusal.specs.Answer.{onGiven};
-ghost use Rattle.tlv.specs.Last.{spot, lastSpot, lastValue, valueOr};
+ghost use Rattle.tlv.specs.Last.{spot, valueOr};
 ghost use Rattle.tlv.specs.Answers.{foundAnswer};
 ghost use Rattle.channel_masks.specs.Mask.{maskAnswer};
 ghost use Rattle.dataset_parts.specs.Parts.{nameEntry, maskEntry, maskCount};
 
 pub const TLV_NETWORK_NAME: u8 = 0x03;
 
-pub const TLV_PSKC: u8 = 0x04;
-
 pub const TLV_CHANNEL_MASK: u8 = 0x35;
-
-// Where the last entry of a type lies. Refusals: 1, 2, 3.
-pub fn raw(s: &[u8], ty: u8) -> Found
-    ensures { λ r. ⌜ foundAnswer r ≡ lastSpot ty 0 (now (s .entry)) ⌝ }
-{
-    tlv::last_entry(s, ty, 0)
-}
-
-// Its value, as a part of s; no bytes where there is none (`raw` tells which).
-pub fn raw_value<'a>(s: &'a [u8], ty: u8) -> &'a [u8]
-    ensures { λ r. ⌜ now r ≡ lastValue ty (now (s .entry)) ⌝ }
-{
-    tlv::last_value(s, ty)
-}
-
-// Where the PSKc lies. Refusals: 1, 2, 3.
-pub fn pskc(s: &[u8]) -> Found
-    ensures { λ r. ⌜ foundAnswer r ≡ lastSpot 4 0 (now (s .entry)) ⌝ }
-{
-    tlv::last_entry(s, TLV_PSKC, 0)
-}
-
-pub fn pskc_value<'a>(s: &'a [u8]) -> &'a [u8]
-    ensures { λ r. ⌜ now r ≡ lastValue 4 (now (s .entry)) ⌝ }
-{
-    tlv::last_value(s, TLV_PSKC)
-}
 
 // Where the network name lies. Refusals: 1, 2, 3, then 6 at its entry.
 pub fn network_name(s: &[u8]) -> Found

@@ -1,6 +1,8 @@
 // What typed values are made of: `ts.build`, `ts.parts`, `flags.get`, `flags.set`, `flags.has`, `channel.bytes`, `policy.bytes`.
 use crate::delays::delay_texts;
 use crate::typed::put_timestamp;
+use policy_flags::SecurityPolicyFlags;
+use policy_flags::ThreadProtocolVersion;
 use requests::Values;
 use requests::asks;
 use texts::Room;
@@ -11,8 +13,6 @@ use texts::put_text;
 use timestamps::Timestamp;
 use values::Channel;
 use values::SecurityPolicy;
-use values::SecurityPolicyFlags;
-use values::ThreadProtocolVersion;
 
 fn version_of(number: u64) -> ThreadProtocolVersion {
     match number {

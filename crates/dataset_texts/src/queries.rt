@@ -59,12 +59,7 @@ fn byte_queries(request: &Room, v: Values, text: &mut Room, at: usize) -> usize 
         return put_found(text, at, network_name(s), network_name_value(s));
     }
     if asks(request, b"q.pskc b") {
-        return put_found(
-            text,
-            at,
-            dataset_parts::pskc(s),
-            dataset_parts::pskc_value(s),
-        );
+        return put_found(text, at, dataset_raw::pskc(s), dataset_raw::pskc_value(s));
     }
     if asks(request, b"q.mask b") {
         return put_mask(text, at, channel_mask(s), channel_mask_value(s));

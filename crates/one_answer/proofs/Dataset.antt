@@ -31,19 +31,19 @@ use Rattle.wire.specs.declared.Read32.{Read32}
 use Rattle.one_answer.proofs.General.{one, one-itself}
 use Rattle.one_answer.specs.One.{One}
 
--- dataset_parts::raw
+-- dataset_raw::raw
 pub raw : (s : List ℕ) (ty : ℕ) → One (λ (r : Found). foundAnswer r ≡ lastSpot ty 0 s)
 raw s ty = one foundAnswer found-tells _
 
--- dataset_parts::raw_value
+-- dataset_raw::raw_value
 pub raw-value : (s : List ℕ) (ty : ℕ) → One (λ (r : List ℕ). r ≡ lastValue ty s)
 raw-value s ty = one-itself _
 
--- dataset_parts::pskc
+-- dataset_raw::pskc
 pub pskc : (s : List ℕ) → One (λ (r : Found). foundAnswer r ≡ lastSpot 4 0 s)
 pskc s = one foundAnswer found-tells _
 
--- dataset_parts::pskc_value
+-- dataset_raw::pskc_value
 pub pskc-value : (s : List ℕ) → One (λ (r : List ℕ). r ≡ lastValue 4 s)
 pskc-value s = one-itself _
 

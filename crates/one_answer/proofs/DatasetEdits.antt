@@ -1,9 +1,9 @@
--- One possible answer for each public call of `dataset_edits`: each line is the call's own promise.
+-- One possible answer for each public call of `dataset_edits` and `dataset_hex`: each line is the call's own promise.
 -- Assumes nothing.
 use mathlib.Core.List.{List}
 use mathlib.Core.Path.{_≡_}
 use Prim.Native.Nat.{ℕ}
-use Rattle.dataset_edits.specs.Edits.{fromHex, hexOf}
+use Rattle.dataset_hex.specs.Hex.{fromHex, hexOf}
 use Rattle.refusal.proofs.Papers.{written-tells}
 use Rattle.refusal.specs.Output.{emit, output, writtenAnswer}
 use Rattle.refusal.specs.declared.Written.{Written}
@@ -24,10 +24,10 @@ remove-all s ty out = leaves writtenAnswer written-tells _
 pub to-bytes : (s : List ℕ) (out : List ℕ) → Leaves (λ (r : Written) (left : List ℕ). output (writtenAnswer r) left ≡ emit (rewritten All s) out)
 to-bytes s out = leaves writtenAnswer written-tells _
 
--- dataset_edits::to_hex
+-- dataset_hex::to_hex
 pub to-hex : (s : List ℕ) (out : List ℕ) → Leaves (λ (r : Written) (left : List ℕ). output (writtenAnswer r) left ≡ emit (hexOf s) out)
 to-hex s out = leaves writtenAnswer written-tells _
 
--- dataset_edits::from_hex
+-- dataset_hex::from_hex
 pub from-hex : (text : List ℕ) (out : List ℕ) → Leaves (λ (r : Written) (left : List ℕ). output (writtenAnswer r) left ≡ emit (fromHex text) out)
 from-hex text out = leaves writtenAnswer written-tells _

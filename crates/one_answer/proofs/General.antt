@@ -9,7 +9,7 @@ use Rattle.refusal.specs.Output.{Output, output, Placed, placing}
 use Rattle.refusal.specs.declared.Refusal.{Refusal}
 use Rattle.refusal.proofs.Papers.{Tells, tells, codeOf, refusalOf, refusal-back}
 use Rattle.timestamps.specs.declared.Timestamp.{Timestamp}
-use Rattle.values.specs.declared.SecurityPolicyFlags.{SecurityPolicyFlags}
+use Rattle.policy_flags.specs.declared.SecurityPolicyFlags.{SecurityPolicyFlags}
 use Rattle.one_answer.specs.One.{One, Leaves}
 
 pub one : {A B : Type 0} (f : A → B) → Tells f → (x : B) → One (λ (r : A). f r ≡ x)

@@ -1,4 +1,4 @@
--- One possible answer for each public call of `values`: each line is the call's own promise.
+-- One possible answer for each public call of `policy_flags` and `values`: each line is the call's own promise.
 -- Assumes nothing.
 use mathlib.Core.Bool.{Bool}
 use mathlib.Core.List.{List}
@@ -6,14 +6,14 @@ use mathlib.Core.Path.{_≡_}
 use Prim.Native.Nat.{ℕ}
 use Rattle.refusal.specs.Answer.{onGiven}
 use Rattle.values.proofs.Papers.{channel-tells, policy-tells}
-use Rattle.values.specs.Threshold.{hasAll, threshold, withThreshold}
+use Rattle.policy_flags.specs.Threshold.{hasAll, threshold, withThreshold}
 use Rattle.values.specs.Typed.{channelAnswer, channelBytes, channelOf, policyAnswer, policyBytes, policyOf}
 use Rattle.values.specs.declared.Channel.{Channel}
 use Rattle.values.specs.declared.ReadChannel.{ReadChannel}
 use Rattle.values.specs.declared.ReadPolicy.{ReadPolicy}
 use Rattle.values.specs.declared.SecurityPolicy.{SecurityPolicy}
-use Rattle.values.specs.declared.SecurityPolicyFlags.{SecurityPolicyFlags}
-use Rattle.values.specs.declared.ThreadProtocolVersion.{ThreadProtocolVersion}
+use Rattle.policy_flags.specs.declared.SecurityPolicyFlags.{SecurityPolicyFlags}
+use Rattle.policy_flags.specs.declared.ThreadProtocolVersion.{ThreadProtocolVersion}
 use Rattle.wire.specs.Be.{ruled}
 use Rattle.one_answer.proofs.General.{flags-tells, one, one-itself}
 use Rattle.one_answer.specs.One.{One}
@@ -26,23 +26,23 @@ channel-parse value place = one channelAnswer channel-tells _
 pub channel-to-value : (self : Channel) → One (λ (r : List ℕ). r ≡ channelBytes self)
 channel-to-value self = one-itself _
 
--- values::SecurityPolicyFlags::from_bits_retain
+-- policy_flags::SecurityPolicyFlags::from_bits_retain
 pub security-policy-flags-from-bits-retain : (bits : ℕ) → One (λ (r : SecurityPolicyFlags). r .0 ≡ bits)
 security-policy-flags-from-bits-retain bits = one (λ (r : SecurityPolicyFlags). r .0) flags-tells _
 
--- values::SecurityPolicyFlags::bits
+-- policy_flags::SecurityPolicyFlags::bits
 pub security-policy-flags-bits : (self : SecurityPolicyFlags) → One (λ (r : ℕ). r ≡ self .0)
 security-policy-flags-bits self = one-itself _
 
--- values::SecurityPolicyFlags::contains
+-- policy_flags::SecurityPolicyFlags::contains
 pub security-policy-flags-contains : (self : SecurityPolicyFlags) (mask : ℕ) → One (λ (r : Bool). r ≡ hasAll (self .0) mask)
 security-policy-flags-contains self mask = one-itself _
 
--- values::SecurityPolicyFlags::version_threshold_for_routing
+-- policy_flags::SecurityPolicyFlags::version_threshold_for_routing
 pub security-policy-flags-version-threshold-for-routing : (self : SecurityPolicyFlags) → One (λ (r : ThreadProtocolVersion). r ≡ threshold (self .0))
 security-policy-flags-version-threshold-for-routing self = one-itself _
 
--- values::SecurityPolicyFlags::set_version_threshold_for_routing
+-- policy_flags::SecurityPolicyFlags::set_version_threshold_for_routing
 pub security-policy-flags-set-version-threshold-for-routing : (self : SecurityPolicyFlags) (version : ThreadProtocolVersion) → One (λ (r : SecurityPolicyFlags). r .0 ≡ withThreshold (self .0) version)
 security-policy-flags-set-version-threshold-for-routing self version = one (λ (r : SecurityPolicyFlags). r .0) flags-tells _
 

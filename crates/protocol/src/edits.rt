@@ -18,10 +18,10 @@ pub(crate) fn edit_calls(request: &Room, v: Values, lent: &mut [u8]) -> Answer {
         return Answer::Wrote(dataset_edits::remove_all(v.bytes(request, 2), v.type_byte(1), lent));
     }
     if asks(request, b"hexdata bn") {
-        return Answer::Wrote(dataset_edits::from_hex(v.bytes(request, 1), lent));
+        return Answer::Wrote(dataset_hex::from_hex(v.bytes(request, 1), lent));
     }
     if asks(request, b"tohex bn") {
-        return Answer::Wrote(dataset_edits::to_hex(v.bytes(request, 1), lent));
+        return Answer::Wrote(dataset_hex::to_hex(v.bytes(request, 1), lent));
     }
     if asks(request, b"maskitem tbn") {
         return Answer::Wrote(channel_masks::write_mask_item(

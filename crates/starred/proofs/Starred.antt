@@ -6,7 +6,7 @@ use Rattle.tlv.specs.Entries.{valued, long, first, contents, step, frames, fram
 use Rattle.tlv.specs.Limits.{limited, framed}
 use Rattle.tlv_writing.specs.Encode.{header, encode, encodeAll, sized}
 use Rattle.tlv_rewriting.specs.Rewrite.{keepsOf, kept, rewritten, setLast}
-use Rattle.values.specs.Threshold.{threshold, withThreshold}
+use Rattle.policy_flags.specs.Threshold.{threshold, withThreshold}
 use Rattle.change_lists.specs.Operations.{setOf, removalOf, firstOp, opStep, opsIn, opsOf, bare, limitedOps, operations}
 use Rattle.change_lists.specs.Fold.{about, touches, lasts, setsOf, removes, removalsBelow, types, foldAll, encodeOp, encodeOps, sizedOps, folded}
 use Rattle.change_lists.specs.Run.{perform, runAll, ran}

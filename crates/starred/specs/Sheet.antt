@@ -9,8 +9,8 @@ use Rattle.tlv.specs.Limits.{framed}
 use Rattle.tlv_rewriting.specs.Rewrite.{rewritten}
 use Rattle.tlv_rewriting.specs.declared.Choice.the-variants.{All}
 use Rattle.timestamps.specs.Timestamps.{built, timestampBytes}
-use Rattle.values.specs.Threshold.{threshold, withThreshold}
-use Rattle.values.specs.declared.ThreadProtocolVersion.the-variants.{V1Or2, V5}
+use Rattle.policy_flags.specs.Threshold.{threshold, withThreshold}
+use Rattle.policy_flags.specs.declared.ThreadProtocolVersion.the-variants.{V1Or2, V5}
 use Rattle.change_lists.specs.Fold.{folded}
 use Rattle.change_lists.specs.Run.{ran}
 use Rattle.network_data.specs.Decode.{decodeNetworkData}

@@ -6,8 +6,8 @@ use lib.ListN.{length}
 use Rattle.refusal.specs.Answer.{Answer, onGiven}
 use Rattle.tlv.specs.Entries.{Entry}
 use Rattle.timestamps.specs.Timestamps.{bitOf}
-use Rattle.values.specs.declared.ThreadProtocolVersion.{ThreadProtocolVersion}
-use Rattle.values.specs.declared.ThreadProtocolVersion.the-variants as v
+use Rattle.policy_flags.specs.declared.ThreadProtocolVersion.{ThreadProtocolVersion}
+use Rattle.policy_flags.specs.declared.ThreadProtocolVersion.the-variants as v
 use Rattle.diag_rows.specs.Routes.{routeRows}
 use Rattle.diag_rows.specs.Rows.{childRows, timeoutSeconds}
 use Rattle.diag_rows.specs.declared.RouteDataEntry.{RouteDataEntry}

@@ -1,4 +1,3 @@
 pub mod Parses
-pub mod Thresholds
 pub mod Round
 pub mod Papers
