@@ -102,5 +102,5 @@ pub fn write_mask_item(page: u8, mask: &[u8], out: &mut [u8]) -> Written
     }
     out[0] = page;
     out[1] = n as u8;
-    Written::Bytes(wire::put_bytes(mask, out, 2))
+    Written::Bytes(copying::put_bytes(mask, out, 2))
 }

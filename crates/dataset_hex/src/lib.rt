@@ -41,5 +41,5 @@ fn framed_copy(s: &[u8], out: &mut [u8]) -> Written
     if s.len() > out.len() {
         return refusal::refuse(Fault::NoRoom, 0);
     }
-    Written::Bytes(wire::put_bytes(s, out, 0))
+    Written::Bytes(copying::put_bytes(s, out, 0))
 }

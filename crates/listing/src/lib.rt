@@ -106,7 +106,7 @@ fn put_listing(s: &[u8], n: usize, out: &mut [u8])
     requires { ⌜ (n ≡ length (framing (now s) .entries)) × (length (listing (framing (now s) .entries)) ≤ length (now out)) ⌝ }
     ensures { λ _. ⌜ now (out .exit) ≡ put (now (out .entry)) 0 (listing (framing (now (s .entry)) .entries)) ⌝ }
 {
-    let word = wire::put_bytes(b"entries ", out, 0);
+    let word = copying::put_bytes(b"entries ", out, 0);
     let end = put_decimal(n, out, word);
     out[end] = b'\n';
     put_lines(s, out, end + 1);
@@ -162,7 +162,7 @@ fn tell(number: u8, place: usize, out: &mut [u8]) -> Written
     if need > out.len() {
         return refusal::refuse(Fault::NoRoom, 0);
     }
-    let word = wire::put_bytes(b"refused ", out, 0);
+    let word = copying::put_bytes(b"refused ", out, 0);
     put_line(number as usize, place, out, word);
     Written::Bytes(need)
 }

@@ -1,4 +1,4 @@
--- One possible answer for each public call of `wire`: each line is the call's own promise.
+-- One possible answer for each public call of `wire` and `copying`: each line is the call's own promise.
 -- Assumes nothing.
 use mathlib.Core.List.{List}
 use mathlib.Core.Path.{_≡_}
@@ -42,6 +42,6 @@ u32-bytes x = one-itself _
 pub u64-bytes : (x : ℕ) → One (λ (r : List ℕ). r ≡ bytesOf 8 x)
 u64-bytes x = one-itself _
 
--- wire::put_bytes
+-- copying::put_bytes
 pub put-bytes : (bytes : List ℕ) (out : List ℕ) (at : ℕ) → Leaves (λ (r : ℕ) (left : List ℕ). placing r left ≡ placed bytes at out)
 put-bytes bytes out at = leaves-placed _

@@ -52,7 +52,7 @@ pub fn put_entry(ty: u8, value: &[u8], out: &mut [u8], at: usize) -> usize
         return at;
     }
     let start = put_header(ty, n, out, at);
-    wire::put_bytes(value, out, start)
+    copying::put_bytes(value, out, start)
 }
 
 // One entry at the start of out. Refusals: 13, 11.

@@ -1,4 +1,4 @@
--- `wire::copy` meets its contract. The invariant: what is left of src, stored from here on, makes of dst what all of src makes of it.
+-- `copying::copy` meets its contract. The invariant: what is left of src, stored from here on, makes of dst what all of src makes of it.
 -- Assumes nothing.
 use mathlib.Core.Path.{_≡_, refl, sym, ap, _∙_}
 use Prim.Native.Nat.{_+_, _-_, _≤_}
@@ -8,8 +8,8 @@ use lib.ListN.{length, drop, length-set, drop-of-length-le}
 use borrow.Author.Needs.{needs}
 use Rattle.refusal.specs.Output.{put}
 use Rattle.laws.proofs.Puts.{put-none, put-next}
-use Rattle.wire.proofs.copy.Statement.{statement}
-use Rattle.wire.proofs.copy.Tie as tie
+use Rattle.copying.proofs.copy.Statement.{statement}
+use Rattle.copying.proofs.copy.Tie as tie
 
 abbrev Inv-loop : tie.InvT-loop
 Inv-loop src dst₀ at i₀ dst i = (i ≤ length src) × (length dst ≡ length dst₀) × (put dst (at + i) (drop i src) ≡ put dst₀ at src)

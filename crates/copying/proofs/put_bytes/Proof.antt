@@ -1,11 +1,11 @@
--- `wire::put_bytes` meets its contract: the two tests say whether the bytes have room.
+-- `copying::put_bytes` meets its contract: the two tests say whether the bytes have room.
 -- Assumes nothing.
 use mathlib.Core.Path.{sym}
 use native.Mathlib.Omega.{arith}
 use Rattle.laws.proofs.Emits.{placed-fits, placed-not}
 use borrow.Author.Needs.{needs}
-use Rattle.wire.proofs.put_bytes.Statement.{statement}
-use Rattle.wire.proofs.put_bytes.Tie as tie
+use Rattle.copying.proofs.put_bytes.Statement.{statement}
+use Rattle.copying.proofs.put_bytes.Tie as tie
 
 returns : tie.Need-returns
 returns c = sym (placed-not _ _ _ (omega arith))
