@@ -27,9 +27,9 @@ use Rattle.tlv.specs.declared.Frame.{Frame}
 use Rattle.tlv.specs.declared.Frame.the-variants as f
 use Rattle.refusal.specs.Numbered.{nth}
 use Rattle.diag_rows.specs.Rows.{part, addresses, addressListOf}
-use Rattle.diag_values.specs.Rule.{valueOf}
+use Rattle.diag_rules.specs.Rule.{valueOf}
 use Rattle.diag_rows.specs.declared.ChildIpv6AddrInfo.{ChildIpv6AddrInfo}
-use Rattle.diag_values.proofs.Kept.{value-cases}
+use Rattle.diag_rules.proofs.Kept.{value-cases}
 use Rattle.diag_rows.proofs.Listing.{nth-head, nth-tail, nth-empty}
 use Rattle.diag_entries.specs.Parts.{allOf, entriesFrom}
 use Rattle.diag_entries.specs.Checked.{checked}

@@ -4,7 +4,7 @@ use Prim.Native.Nat.{ℕ}
 use mathlib.Core.List.{List}
 use Rattle.refusal.specs.Answer.{Answer, onGiven}
 use Rattle.tlv.specs.Entries.{entry}
-use Rattle.diag_values.specs.Rule.{valueOf}
+use Rattle.diag_rules.specs.Rule.{valueOf}
 use Rattle.diag_entries.specs.Lists.{AddressList, addressList}
 use Rattle.diag_entries.specs.Answers.{bytesAt}
 

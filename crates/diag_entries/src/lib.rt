@@ -1,7 +1,7 @@
 // The entries of a diagnostic payload (decode.rs): that each of them decodes, and the address lists (type 30) among them.
 use diag_rows::ChildIpv6AddrInfo;
 use diag_rows::ReadAddressList;
-use diag_values::Judged;
+use diag_rules::Judged;
 use network_data::Checked;
 use tlv::Counted;
 use tlv::Found;
@@ -14,7 +14,7 @@ ghost use Rattle.tlv.specs.Entries.{framing};
 ghost use Rattle.tlv.specs.Last.{spot};
 ghost use Rattle.tlv.specs.Answers.{countedAnswer, foundAnswer};
 ghost use Rattle.refusal.specs.Numbered.{nth};
-ghost use Rattle.diag_values.specs.Answers.{judgedAnswer, judged};
+ghost use Rattle.diag_rules.specs.Answers.{judgedAnswer, judged};
 ghost use Rattle.diag_entries.specs.Parts.{allOf, entriesFrom};
 ghost use Rattle.diag_entries.specs.Checked.{entryValue, checked};
 ghost use Rattle.diag_entries.specs.Lists.{childList};
@@ -31,7 +31,7 @@ fn check_entry(ty: u8, value: &[u8], place: usize) -> Judged
             Checked::Refused(r) => Judged::Refused(r),
         };
     }
-    diag_values::check_value(ty, value, place)
+    diag_rules::check_value(ty, value, place)
 }
 
 // How many entries a payload has, each of which decodes. Refusals: 1, 2, 3, then 4, 5 and 12, the first met.

@@ -11,9 +11,9 @@ use Rattle.laws.proofs.Tests.{by-test}
 use Rattle.refusal.specs.Answer.{Answer, given, absent, onGiven, thenDo}
 use Rattle.refusal.specs.Numbered.{nth}
 use Rattle.diag_rows.specs.Rows.{listed, childAt, childRows, addresses, Part, part, addressParts, orEmpty}
-use Rattle.diag_values.specs.Rule.{valueOf}
+use Rattle.diag_rules.specs.Rule.{valueOf}
 use Rattle.diag_rows.specs.declared.ChildTableEntry.{ChildTableEntry}
-use Rattle.diag_values.proofs.Kept.{value-cases}
+use Rattle.diag_rules.proofs.Kept.{value-cases}
 
 -- ---- of a list that is made by a function
 

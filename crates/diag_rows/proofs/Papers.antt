@@ -2,8 +2,8 @@
 -- Assumes nothing.
 use mathlib.Core.Path.{refl, ap}
 use Rattle.refusal.proofs.Papers.{Tells, tells, refusal-back, codeOf}
-use Rattle.diag_values.specs.declared.Judged.{Judged}
-use Rattle.diag_values.proofs.Papers.{judgedOf, judged-back}
+use Rattle.diag_rules.specs.declared.Judged.{Judged}
+use Rattle.diag_rules.proofs.Papers.{judgedOf, judged-back}
 use Rattle.diag_rows.specs.Routes.{RouteRead}
 use Rattle.diag_rows.specs.Rows.{Part}
 use Rattle.diag_rows.specs.Answers.{addressListAnswer, routeRead, routeAnswer, childAnswer, partAnswer}

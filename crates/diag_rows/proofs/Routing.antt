@@ -12,15 +12,14 @@ use lib.Seq.{drop-cons, sets, sets-eq}
 use Rattle.refusal.specs.Answer.{given, onGiven}
 use Rattle.refusal.specs.Number.{refusalAnswer}
 use Rattle.refusal.specs.declared.Refusal.{Refusal}
-use Rattle.diag_values.specs.Rule.{valueOf}
-use Rattle.diag_values.specs.Answers.{judged}
+use Rattle.diag_rules.specs.Rule.{valueOf}
+use Rattle.diag_rules.specs.Answers.{judged}
 use Rattle.diag_rows.specs.declared.Route64.{Route64}
 use Rattle.diag_rows.specs.declared.RouteDataEntry.{RouteDataEntry}
-use Rattle.diag_values.specs.Values.{byteAt}
-use Rattle.diag_values.specs.Mask.{assigned, routersOf, routesFit}
+use Rattle.diag_rules.specs.Mask.{byteAt, assigned, routersOf, routesFit}
 use Rattle.diag_rows.specs.Routes.{routed, routeOf, maskOf, routes, zeroRoutes, laidOut, routeRow, rowsOf, routeRows, table}
-use Rattle.diag_values.proofs.Kept.{Keeps, kept, read-refused}
-use Rattle.diag_values.proofs.Mask.{rest, rest-all, rest-hit, rest-miss, rest-end, few, fit-length}
+use Rattle.diag_rules.proofs.Kept.{Keeps, kept, read-refused}
+use Rattle.diag_rules.proofs.Mask.{rest, rest-all, rest-hit, rest-miss, rest-end, few, fit-length}
 
 -- each router has its row
 rows-length : (ks bs : List ℕ) → length ks ≤ length bs → length (rowsOf ks bs) ≡ length ks

@@ -11,14 +11,13 @@ use lib.Dec.{eqb}
 use borrow.Author.Tests.{eqb-true, eqb-false}
 use Rattle.refusal.specs.Every.{Every}
 use Rattle.laws.proofs.Tests.{pick-all}
-use Rattle.diag_values.specs.Values.{byteAt}
-use Rattle.diag_values.specs.Mask.{bitOf, assigned, routers, routersOf, routesFit}
+use Rattle.diag_rules.specs.Mask.{byteAt, bitOf, assigned, routers, routersOf, routesFit}
 use Rattle.diag_rows.specs.Routes.{maskOf, rowsOf, routeRows}
 use Rattle.diag_rows.specs.Rows.{listed, childAt, childRows, part, addresses, addressParts}
 use Rattle.diag_rows.specs.declared.ChildTableEntry.{ChildTableEntry}
 use Rattle.diag_rows.specs.declared.RouteDataEntry.{RouteDataEntry}
 use Rattle.diag_values.proofs.Numbers.{elements, part-elements}
-use Rattle.diag_values.proofs.Mask.{fit-length}
+use Rattle.diag_rules.proofs.Mask.{fit-length}
 use Rattle.diag_rows.proofs.Routing.{fit-rows}
 
 -- ---- rows by a function

@@ -2,7 +2,7 @@
 -- Assumes nothing.
 use Rattle.refusal.specs.Answer.{Answer, given, absent}
 use Rattle.refusal.specs.Number.{refusalAnswer}
-use Rattle.diag_values.specs.Answers.{judgedAnswer}
+use Rattle.diag_rules.specs.Answers.{judgedAnswer}
 use Rattle.diag_rows.specs.Routes.{RouteRead, routed}
 use Rattle.diag_rows.specs.Rows.{Part, part}
 use Rattle.diag_rows.specs.declared.ChildIpv6AddrInfo.{ChildIpv6AddrInfo}

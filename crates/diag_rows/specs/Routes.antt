@@ -5,8 +5,7 @@ use Prim.Native.Nat.{ℕ, _-_, _/_, _%_}
 use mathlib.Core.List.{List, [], _∷_, _++_}
 use lib.ListN.{length, take, drop, replicate}
 use Rattle.refusal.specs.Answer.{Answer, given, absent, refused}
-use Rattle.diag_values.specs.Values.{byteAt}
-use Rattle.diag_values.specs.Mask.{routersOf}
+use Rattle.diag_rules.specs.Mask.{byteAt, routersOf}
 use Rattle.diag_rows.specs.declared.RouteDataEntry.{RouteDataEntry}
 use Rattle.diag_rows.specs.declared.Route64.{Route64}
 

@@ -1,5 +1,5 @@
 // The values of a network-diagnostic payload that have rows (decode.rs, model.rs): routes, a child table, addresses, and a child's address list.
-use diag_values::Judged;
+use diag_rules::Judged;
 use diag_values::ModeData;
 use refusal::Refusal;
 ghost use mathlib.Core.Path.{_≡_};
@@ -10,8 +10,8 @@ ghost use lib.ListN.{length};
 ghost use Rattle.refusal.specs.Answer.{onGiven, thenDo};
 ghost use Rattle.refusal.specs.Numbered.{nth};
 ghost use Rattle.diag_values.specs.Values.{numberAt};
-ghost use Rattle.diag_values.specs.Mask.{routesFit};
-ghost use Rattle.diag_values.specs.Rule.{valueOf};
+ghost use Rattle.diag_rules.specs.Mask.{routesFit};
+ghost use Rattle.diag_rules.specs.Rule.{valueOf};
 ghost use Rattle.diag_rows.specs.Routes.{routeRow, routeRows, routeOf, table, zeroRoutes, routes, laidOut};
 ghost use Rattle.diag_rows.specs.Rows.{childAt, childRows, addresses, addressParts, timeoutSeconds, orEmpty, addressListOf};
 ghost use Rattle.diag_rows.specs.Answers.{addressListAnswer, childAnswer, routeAnswer, partAnswer, routeRead};
@@ -102,11 +102,11 @@ fn address_list_of(v: &[u8]) -> ChildIpv6AddrInfo
     }
 }
 
-// A child's RLOC16, its ID, and where its addresses stand in the value. Refusals, here and below: those of `diag_values::check_value`.
+// A child's RLOC16, its ID, and where its addresses stand in the value. Refusals, here and below: those of `diag_rules::check_value`.
 pub fn decode_child_ipv6_addresses(value: &[u8], place: usize) -> ReadAddressList
     ensures { λ r. ⌜ addressListAnswer r ≡ onGiven addressListOf (valueOf 30 place (now (value .entry))) ⌝ }
 {
-    match diag_values::check_value(diag_values::CHILD_IPV6_ADDRESSES, value, place) {
+    match diag_rules::check_value(diag_values::CHILD_IPV6_ADDRESSES, value, place) {
         Judged::Kept => ReadAddressList::Value(address_list_of(value)),
         Judged::Refused(r) => ReadAddressList::Refused(r),
     }
@@ -135,7 +135,7 @@ fn route_rows(v: &[u8]) -> [RouteDataEntry; 64]
     let mut k: usize = 0;
     while k < 64 {
         let next = k + 1;
-        if diag_values::assigns(v[1 + k / 8], k) {
+        if diag_rules::assigns(v[1 + k / 8], k) {
             let row = route_row(k as u8, v[9 + n]);
             rows[n] = row;
             n += 1;
@@ -176,7 +176,7 @@ fn route64_of(v: &[u8]) -> Route64
 pub fn decode_route64(value: &[u8], place: usize) -> ReadRoute64
     ensures { λ r. ⌜ routeRead r ≡ laidOut (onGiven routeOf (valueOf 5 place (now (value .entry)))) ⌝ }
 {
-    match diag_values::check_value(diag_values::ROUTE64, value, place) {
+    match diag_rules::check_value(diag_values::ROUTE64, value, place) {
         Judged::Kept => ReadRoute64 {
             answer: Judged::Kept,
             route: route64_of(value),
@@ -198,7 +198,7 @@ fn route_at(v: &[u8], k: usize) -> ReadRoute
     let mut i: usize = 0;
     while i < 64 {
         let next = i + 1;
-        if diag_values::assigns(v[1 + i / 8], i) {
+        if diag_rules::assigns(v[1 + i / 8], i) {
             if v.len() <= at {
                 return ReadRoute::Absent;
             }
@@ -213,11 +213,11 @@ fn route_at(v: &[u8], k: usize) -> ReadRoute
     ReadRoute::Absent
 }
 
-// Row k of a Route64, from 0 on. Refusals of the row calls: those of `diag_values::check_value` at place 0.
+// Row k of a Route64, from 0 on. Refusals of the row calls: those of `diag_rules::check_value` at place 0.
 pub fn route64_row(value: &[u8], k: usize) -> ReadRoute
     ensures { λ r. ⌜ routeAnswer r ≡ thenDo (valueOf 5 0 (now (value .entry))) (λ (v : List ℕ). nth (routeRows v) k) ⌝ }
 {
-    match diag_values::check_value(diag_values::ROUTE64, value, 0) {
+    match diag_rules::check_value(diag_values::ROUTE64, value, 0) {
         Judged::Kept => route_at(value, k),
         Judged::Refused(r) => ReadRoute::Refused(r),
     }
@@ -242,7 +242,7 @@ fn child_at(v: &[u8], at: usize) -> ChildTableEntry
 pub fn child_row(value: &[u8], k: usize) -> ReadChild
     ensures { λ r. ⌜ childAnswer r ≡ thenDo (valueOf 16 0 (now (value .entry))) (λ (v : List ℕ). nth (childRows v) k) ⌝ }
 {
-    match diag_values::check_value(diag_values::CHILD_TABLE, value, 0) {
+    match diag_rules::check_value(diag_values::CHILD_TABLE, value, 0) {
         Judged::Kept => {
             if value.len() / 3 <= k {
                 return ReadChild::Absent;
@@ -270,7 +270,7 @@ impl ChildTableEntry {
 pub fn address_at(value: &[u8], k: usize) -> ReadPart
     ensures { λ r. ⌜ partAnswer r ≡ thenDo (valueOf 8 0 (now (value .entry))) (λ (v : List ℕ). nth (addressParts v) k) ⌝ }
 {
-    match diag_values::check_value(diag_values::IPV6_ADDRESSES, value, 0) {
+    match diag_rules::check_value(diag_values::IPV6_ADDRESSES, value, 0) {
         Judged::Kept => {
             if value.len() / 16 <= k {
                 return ReadPart::Absent;

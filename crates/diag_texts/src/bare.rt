@@ -12,7 +12,7 @@ use crate::rows::put_rows;
 use diag_rows::ReadAddressList;
 use diag_rows::ReadRoute64;
 use diag_rows::Route64;
-use diag_values::Judged;
+use diag_rules::Judged;
 use diag_values::ModeData;
 use diag_values::Read8;
 use diag_values::ReadConnectivity;
@@ -166,7 +166,7 @@ fn put_bare_route64(text: &mut Room, at: usize, ty: u8, r: ReadRoute64) -> usize
 }
 
 fn put_children(text: &mut Room, at: usize, ty: u8, value: &[u8]) -> usize {
-    match diag_values::check_value(ty, value, 0) {
+    match diag_rules::check_value(ty, value, 0) {
         Judged::Kept => {
             let head = put_head(text, at, ty);
             put_rows(text, head, Rows::Children, value, value.len() / 3)
@@ -191,7 +191,7 @@ fn put_each_address(text: &mut Room, at: usize, value: &[u8]) -> usize {
 }
 
 fn put_addresses(text: &mut Room, at: usize, ty: u8, value: &[u8]) -> usize {
-    match diag_values::check_value(ty, value, 0) {
+    match diag_rules::check_value(ty, value, 0) {
         Judged::Kept => {
             let head = put_head(text, at, ty);
             put_each_address(text, head, value)
@@ -201,7 +201,7 @@ fn put_addresses(text: &mut Room, at: usize, ty: u8, value: &[u8]) -> usize {
 }
 
 fn put_bytes(text: &mut Room, at: usize, ty: u8, value: &[u8]) -> usize {
-    match diag_values::check_value(ty, value, 0) {
+    match diag_rules::check_value(ty, value, 0) {
         Judged::Kept => {
             let head = put_head(text, at, ty);
             put_hex(text, head, value)

@@ -8,7 +8,8 @@ use native.Mathlib.Numerals.{add-one}
 use lib.ListN.{length, take, drop, getD}
 use lib.Seq.{drop-cons}
 use Rattle.wire.specs.Be.{be, beFrom}
-use Rattle.diag_values.specs.Values.{byteAt, numberAt}
+use Rattle.diag_rules.specs.Mask.{byteAt}
+use Rattle.diag_values.specs.Values.{numberAt}
 
 -- n elements of v from the index i on
 abbrev pub elements : (n i : ℕ) → List ℕ → List ℕ

@@ -6,7 +6,7 @@ use Prim.Native.Nat.{_%_, ℕ}
 use Rattle.diag_rows.proofs.Papers.{address-list-tells, child-tells, part-tells, route-row-tells, route64-tells}
 use Rattle.diag_rows.specs.Answers.{addressListAnswer, childAnswer, partAnswer, routeAnswer, routeRead}
 use Rattle.diag_rows.specs.Routes.{laidOut, routeOf, routeRows}
-use Rattle.diag_values.specs.Rule.{valueOf}
+use Rattle.diag_rules.specs.Rule.{valueOf}
 use Rattle.refusal.specs.Numbered.{nth}
 use Rattle.diag_rows.specs.Rows.{addressListOf, addressParts, addresses, childRows, orEmpty, timeoutSeconds}
 use Rattle.diag_rows.specs.declared.ChildTableEntry.{ChildTableEntry}

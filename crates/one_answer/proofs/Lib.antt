@@ -19,6 +19,7 @@ pub mod NetworkData
 pub mod NetworkWalker
 pub mod NetworkTables
 pub mod NetworkBridge
+pub mod DiagRules
 pub mod DiagValues
 pub mod DiagRows
 pub mod DiagEntries

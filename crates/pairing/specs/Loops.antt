@@ -7,7 +7,7 @@ use lib.ListN.{length, getD}
 use lib.Dec.{eqb}
 use Rattle.refusal.specs.Answer.{pick, Answer, given, absent, refused, thenDo, onGiven}
 use Rattle.tlv.specs.Entries.{Entry}
-use Rattle.diag_values.specs.Rule.{valueOf}
+use Rattle.diag_rules.specs.Rule.{valueOf}
 use Rattle.refusal.specs.Numbered.{nth}
 use Rattle.diag_rows.specs.Rows.{listed, childRows, addressListOf}
 use Rattle.diag_rows.specs.declared.ChildTableEntry.{ChildTableEntry}

@@ -8,7 +8,7 @@ use Rattle.tlv.specs.Entries.{Entry, framing}
 use Rattle.diag_rows.specs.Routes.{routeRow, routeOf, laidOut}
 use Rattle.refusal.specs.Numbered.{nth}
 use Rattle.diag_rows.specs.Rows.{Part, childRows, addresses, orEmpty, addressListOf}
-use Rattle.diag_values.specs.Rule.{valueOf}
+use Rattle.diag_rules.specs.Rule.{valueOf}
 use Rattle.diag_rows.specs.declared.RouteDataEntry.{RouteDataEntry}
 use Rattle.diag_rows.specs.declared.Route64.{Route64}
 use Rattle.diag_rows.specs.declared.ChildTableEntry.{ChildTableEntry}

@@ -14,10 +14,10 @@ use Rattle.network_data.specs.Frame as frame
 use Rattle.network_data.specs.Walk as walk
 use Rattle.network_data.specs.Rules as rules
 use Rattle.network_data.specs.Decode as decode
-use Rattle.diag_values.specs.Mask.{bitOf, routers, routersOf, routesFit}
+use Rattle.diag_rules.specs.Mask.{bitOf, routers, routersOf, routesFit}
 use Rattle.diag_rows.specs.Routes.{rowsOf, routeRows}
 use Rattle.diag_rows.specs.Rows.{listed, childRows, timeoutSeconds}
-use Rattle.diag_values.specs.Rule.{keepsRule, valueOf}
+use Rattle.diag_rules.specs.Rule.{keepsRule, valueOf}
 use Rattle.starred.specs.Sheet.{Holds, sheet}
 use Rattle.starred.proofs.Same.{all-hold}
 

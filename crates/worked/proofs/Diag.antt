@@ -13,7 +13,7 @@ use Rattle.network_data.specs.Frame.{subIn}
 use Rattle.network_data.specs.Walk as w
 use Rattle.network_data.specs.Rules.{headAt, ended, rules, checkIn, checkHead, checkPrefix, values, checkFrom, checkValue}
 use Rattle.network_data.specs.Decode.{prefixes, contents, allRoutes, allBorders, countsOf, decodeNetworkData}
-use Rattle.diag_values.specs.Rule.{keepsRule, valueOf}
+use Rattle.diag_rules.specs.Rule.{keepsRule, valueOf}
 use Rattle.refusal.specs.Numbered.{nth}
 use Rattle.diag_rows.specs.Rows.{listed, childRows, addresses}
 use Rattle.diag_entries.specs.Parts.{allOf, Said}

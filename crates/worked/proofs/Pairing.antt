@@ -10,7 +10,7 @@ use Rattle.wire.specs.Be.{beFrom, be}
 use Rattle.tlv.specs.Entries.{valued, first, step, frames, framing}
 use Rattle.tlv.specs.Limits.{limited, framed}
 use Rattle.tlv.specs.Last.{lastOf}
-use Rattle.diag_values.specs.Rule.{keepsRule, valueOf}
+use Rattle.diag_rules.specs.Rule.{keepsRule, valueOf}
 use Rattle.diag_rows.specs.Rows.{listed, childRows}
 use Rattle.diag_entries.specs.Parts.{allOf}
 use Rattle.diag_entries.specs.Checked.{entryValue, decoding, checked}

@@ -2,9 +2,9 @@
 -- Assumes nothing.
 use mathlib.Core.Path.{sym, ap, _∙_}
 use native.Mathlib.Omega.{arith}
-use Rattle.diag_values.specs.Answers.{judgedAnswer}
-use Rattle.diag_values.proofs.Kept.{routes-fit}
-use Rattle.diag_values.proofs.Mask.{fit-length}
+use Rattle.diag_rules.specs.Answers.{judgedAnswer}
+use Rattle.diag_rules.proofs.Kept.{routes-fit}
+use Rattle.diag_rules.proofs.Mask.{fit-length}
 use Rattle.diag_rows.proofs.Routing.{laid-kept, laid-refused}
 use borrow.Author.Needs.{needs}
 use Rattle.diag_rows.proofs.decode_route64.Statement.{statement}

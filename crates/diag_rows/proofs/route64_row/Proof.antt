@@ -6,9 +6,9 @@ use Prim.Native.Nat.{ℕ}
 use native.Mathlib.Omega.{arith}
 use Rattle.diag_rows.specs.Routes.{routeRows}
 use Rattle.refusal.specs.Numbered.{nth}
-use Rattle.diag_values.specs.Answers.{judgedAnswer}
-use Rattle.diag_values.proofs.Kept.{row-kept, row-refused, routes-fit}
-use Rattle.diag_values.proofs.Mask.{fit-length}
+use Rattle.diag_rules.specs.Answers.{judgedAnswer}
+use Rattle.diag_rules.proofs.Kept.{row-kept, row-refused, routes-fit}
+use Rattle.diag_rules.proofs.Mask.{fit-length}
 use borrow.Author.Needs.{needs}
 use Rattle.diag_rows.proofs.route64_row.Statement.{statement}
 use Rattle.diag_rows.proofs.route64_row.Tie as tie

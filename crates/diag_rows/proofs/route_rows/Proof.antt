@@ -4,7 +4,7 @@ use mathlib.Core.Path.{_≡_, sym, ap, _∙_}
 use Prim.Native.Nat.{_+_, _-_, _≤_}
 use native.Mathlib.Omega.{arith}
 use lib.ListN.{length, length-set}
-use Rattle.diag_values.proofs.Mask.{rest, rest-all, rest-hit, rest-miss, fit-length}
+use Rattle.diag_rules.proofs.Mask.{rest, rest-all, rest-hit, rest-miss, fit-length}
 use Rattle.diag_rows.proofs.Routing.{Laid, laid-start, laid-hit, laid-miss, laid-end}
 use borrow.Author.Needs.{needs}
 use Rattle.diag_rows.proofs.route_rows.Statement.{statement}

@@ -1,10 +1,10 @@
--- `diag_values::routes_fit` meets its contract.
+-- `diag_rules::routes_fit` meets its contract.
 -- Assumes nothing.
 use borrow.Author.Tests.{le-leb, lt-leb}
-use Rattle.diag_values.specs.Mask.{routesFit}
+use Rattle.diag_rules.specs.Mask.{routesFit}
 use borrow.Author.Needs.{needs}
-use Rattle.diag_values.proofs.routes_fit.Statement.{statement}
-use Rattle.diag_values.proofs.routes_fit.Tie as tie
+use Rattle.diag_rules.proofs.routes_fit.Statement.{statement}
+use Rattle.diag_rules.proofs.routes_fit.Tie as tie
 
 returns : tie.Need-returns
 unfolding routesFit

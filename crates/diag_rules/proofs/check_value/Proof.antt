@@ -1,12 +1,12 @@
--- `diag_values::check_value` meets its contract: one law for each of its three answers.
+-- `diag_rules::check_value` meets its contract: one law for each of its three answers.
 -- Assumes nothing.
 use mathlib.Core.Path.{sym, ap, _∙_}
 use borrow.Author.Tests.{lt-ltb, le-ltb}
-use Rattle.diag_values.specs.Answers.{judged}
-use Rattle.diag_values.proofs.Kept.{value-large, value-kept, value-broken}
+use Rattle.diag_rules.specs.Answers.{judged}
+use Rattle.diag_rules.proofs.Kept.{value-large, value-kept, value-broken}
 use borrow.Author.Needs.{needs}
-use Rattle.diag_values.proofs.check_value.Statement.{statement}
-use Rattle.diag_values.proofs.check_value.Tie as tie
+use Rattle.diag_rules.proofs.check_value.Statement.{statement}
+use Rattle.diag_rules.proofs.check_value.Tie as tie
 
 returns : tie.Need-returns
 returns c = sym (ap judged (value-large _ _ _ (lt-ltb _ _ (c .if1 .taken))))

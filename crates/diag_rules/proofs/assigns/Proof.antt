@@ -1,10 +1,10 @@
--- `diag_values::assigns` meets its contract.
+-- `diag_rules::assigns` meets its contract.
 -- Assumes nothing.
 use mathlib.Core.Path.{refl}
-use Rattle.diag_values.specs.Mask.{bitOf}
+use Rattle.diag_rules.specs.Mask.{bitOf}
 use borrow.Author.Needs.{needs}
-use Rattle.diag_values.proofs.assigns.Statement.{statement}
-use Rattle.diag_values.proofs.assigns.Tie as tie
+use Rattle.diag_rules.proofs.assigns.Statement.{statement}
+use Rattle.diag_rules.proofs.assigns.Tie as tie
 
 sub-shift : tie.Need-sub-shift
 sub-shift c = search needs

@@ -11,8 +11,8 @@ use lib.Dec.{eqb, leb}
 use borrow.Author.Tests.{eqb-true}
 use Rattle.refusal.specs.Answer.{pick}
 use Rattle.laws.proofs.Tests.{pick-all}
-use Rattle.diag_values.specs.Mask.{assigned, routers, routersOf, routesFit}
-use Rattle.diag_values.proofs.Kept.{both}
+use Rattle.diag_rules.specs.Mask.{assigned, routers, routersOf, routesFit}
+use Rattle.diag_rules.proofs.Kept.{both}
 
 -- the routers from k on, up to 63
 unfoldable pub rest : ℕ → List ℕ → List ℕ

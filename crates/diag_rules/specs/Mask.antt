@@ -4,10 +4,13 @@
 use Prim.Native.Nat.{ℕ, zero, suc, _+_, _-_, _/_, _%_, _^_}
 use mathlib.Core.Bool.{Bool, false}
 use mathlib.Core.List.{List, [], _∷_}
-use lib.ListN.{length}
+use lib.ListN.{length, getD}
 use lib.Dec.{eqb, leb}
 use Rattle.refusal.specs.Answer.{pick}
-use Rattle.diag_values.specs.Values.{byteAt}
+
+-- byte k of a value, from 0 on
+abbrev pub byteAt : List ℕ → ℕ → ℕ
+byteAt v k = getD v k 0
 
 -- router k's bit of its mask byte: the high bit first
 unfoldable pub bitOf : (byte k : ℕ) → Bool

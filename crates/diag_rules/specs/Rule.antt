@@ -7,7 +7,7 @@ use lib.ListN.{length}
 use lib.Dec.{eqb, leb, ltb}
 use Rattle.refusal.specs.Sizes.{mostBytes}
 use Rattle.refusal.specs.Answer.{pick, Answer, given, refused}
-use Rattle.diag_values.specs.Mask.{routesFit}
+use Rattle.diag_rules.specs.Mask.{routesFit}
 
 -- "0, 17, 18: any bytes. 1: u16. 3: u32. 14: one byte. 15: u16. 23: 8 bytes." "2, one byte". "4, at least 7 bytes". 5: "exactly 9 plus the number of set
 -- bits". "6, 8 bytes". "9, 36 bytes". "8: whole 16-byte addresses, possibly none. 30: RLOC16, then the same". "16: rows of 3". "Unknown types are

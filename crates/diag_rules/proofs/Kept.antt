@@ -14,9 +14,9 @@ use Rattle.refusal.specs.Number.{refusalAnswer}
 use Rattle.refusal.specs.declared.Refusal.{Refusal}
 use Rattle.laws.proofs.Parts.{length-part}
 use Rattle.laws.proofs.Tests.{by-test, pick-all}
-use Rattle.diag_values.specs.Mask.{routesFit}
-use Rattle.diag_values.specs.Rule.{keepsRule, valueOf}
-use Rattle.diag_values.specs.Answers.{judged}
+use Rattle.diag_rules.specs.Mask.{routesFit}
+use Rattle.diag_rules.specs.Rule.{keepsRule, valueOf}
+use Rattle.diag_rules.specs.Answers.{judged}
 
 -- nothing is both given and refused
 apart : {G : Type 0} {n p i : ℕ} → _≡_ {A = Answer (Unit {0})} (given tt) (refused n p i) → G

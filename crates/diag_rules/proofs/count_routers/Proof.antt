@@ -1,14 +1,14 @@
--- `diag_values::count_routers` meets its contract. The invariant: n and the routers from k on are all the routers.
+-- `diag_rules::count_routers` meets its contract. The invariant: n and the routers from k on are all the routers.
 -- Assumes nothing.
 use mathlib.Core.Path.{_≡_, sym, ap, _∙_}
 use Prim.Native.Nat.{_+_, _-_, _≤_}
 use native.Mathlib.Omega.{arith}
 use lib.ListN.{length}
-use Rattle.diag_values.specs.Mask.{routersOf}
-use Rattle.diag_values.proofs.Mask.{rest, rest-all, rest-hit, rest-miss, rest-end}
+use Rattle.diag_rules.specs.Mask.{routersOf}
+use Rattle.diag_rules.proofs.Mask.{rest, rest-all, rest-hit, rest-miss, rest-end}
 use borrow.Author.Needs.{needs}
-use Rattle.diag_values.proofs.count_routers.Statement.{statement}
-use Rattle.diag_values.proofs.count_routers.Tie as tie
+use Rattle.diag_rules.proofs.count_routers.Statement.{statement}
+use Rattle.diag_rules.proofs.count_routers.Tie as tie
 
 abbrev Inv-loop : tie.InvT-loop
 Inv-loop v n₀ k₀ n k = (9 ≤ length v) × (k ≤ 64) × (n ≤ k) × (n + length (rest k v) ≡ length (routersOf v))

@@ -1,11 +1,11 @@
--- `diag_values::keeps_rule` meets its contract: each arm is a line of the table.
+-- `diag_rules::keeps_rule` meets its contract: each arm is a line of the table.
 -- Assumes nothing.
 use borrow.Author.Tests.{le-leb, lt-leb}
-use Rattle.diag_values.specs.Rule.{keepsRule}
-use Rattle.diag_values.proofs.Kept.{other-kept}
+use Rattle.diag_rules.specs.Rule.{keepsRule}
+use Rattle.diag_rules.proofs.Kept.{other-kept}
 use borrow.Author.Needs.{needs}
-use Rattle.diag_values.proofs.keeps_rule.Statement.{statement}
-use Rattle.diag_values.proofs.keeps_rule.Tie as tie
+use Rattle.diag_rules.proofs.keeps_rule.Statement.{statement}
+use Rattle.diag_rules.proofs.keeps_rule.Tie as tie
 
 routes-fit-requires : tie.Need-routes-fit-requires
 routes-fit-requires c κs = search needs
