@@ -26,5 +26,6 @@ pub mod DiagEntries
 pub mod Diag
 pub mod DiagTables
 pub mod DiagBridge
+pub mod PairCodes
 pub mod Pairing
 pub mod Listing

@@ -13,9 +13,10 @@ use Rattle.diag_rows.specs.Rows.{listed, childRows, addressListOf}
 use Rattle.diag_rows.specs.declared.ChildTableEntry.{ChildTableEntry}
 use Rattle.diag_rows.specs.declared.ChildIpv6AddrInfo.{ChildIpv6AddrInfo}
 use Rattle.diag_entries.specs.Parts.{allOf}
-use Rattle.pairing.specs.Pairing.{occurs, codeOf}
-use Rattle.pairing.specs.declared.Pairing.{Pairing}
-use Rattle.pairing.specs.declared.Pairing.the-variants as p
+use Rattle.pairing.specs.Pairing.{occurs}
+use Rattle.pair_codes.specs.Codes.{codeOf}
+use Rattle.pair_codes.specs.declared.Pairing.{Pairing}
+use Rattle.pair_codes.specs.declared.Pairing.the-variants as p
 
 -- ---- child IDs, 0 where a value is refused: that does not occur in a payload that was checked
 
