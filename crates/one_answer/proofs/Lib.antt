@@ -15,6 +15,7 @@ pub mod DatasetEdits
 pub mod ChangeLists
 pub mod Changes
 pub mod Delay
+pub mod NetworkFraming
 pub mod NetworkData
 pub mod NetworkWalker
 pub mod NetworkTables

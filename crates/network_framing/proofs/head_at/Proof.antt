@@ -1,13 +1,13 @@
--- `network_data::head_at` meets its contract: at each `return` the tests that led there say which case of `headAt` holds.
+-- `network_framing::head_at` meets its contract: at each `return` the tests that led there say which case of `headAt` holds.
 -- Assumes nothing.
 use borrow.Author.Needs.{needs}
 use mathlib.Core.Path.{sym}
 use borrow.Author.Tests.{lt-ltb, le-ltb}
 use native.Mathlib.Omega.{arith}
 use Prim.Native.Nat.{_-_, _<_}
-use Rattle.network_data.specs.Rules.{headAt}
-use Rattle.network_data.proofs.head_at.Statement.{statement}
-use Rattle.network_data.proofs.head_at.Tie as tie
+use Rattle.network_framing.specs.Frame.{headAt}
+use Rattle.network_framing.proofs.head_at.Statement.{statement}
+use Rattle.network_framing.proofs.head_at.Tie as tie
 
 returns : tie.Need-returns
 unfolding headAt

@@ -2,9 +2,9 @@
 -- Assumes nothing.
 use Prim.Native.Nat.{ℕ, zero, suc, _+_}
 use mathlib.Core.List.{List, [], _∷_}
-use Rattle.network_data.specs.Frame.{subIn}
-use Rattle.network_data.specs.declared.SubTlv.{SubTlv}
-use Rattle.network_data.specs.declared.SubTlv.the-variants.{Item, Cut, End}
+use Rattle.network_framing.specs.Frame.{subIn}
+use Rattle.network_framing.specs.declared.SubTlv.{SubTlv}
+use Rattle.network_framing.specs.declared.SubTlv.the-variants.{Item, Cut, End}
 
 -- a TLV: its type, where its value starts, and how long that is
 pub record Piece : Type 0 where

@@ -1,10 +1,10 @@
--- `network_data::byte_at` meets its contract. Assumes nothing.
+-- `network_framing::byte_at` meets its contract. Assumes nothing.
 use borrow.Author.Needs.{needs}
 use mathlib.Core.Path.{sym}
 use lib.ListN.{List·getD-eq-default}
 use denote.Ref.{now}
-use Rattle.network_data.proofs.byte_at.Statement.{statement}
-use Rattle.network_data.proofs.byte_at.Tie as tie
+use Rattle.network_framing.proofs.byte_at.Statement.{statement}
+use Rattle.network_framing.proofs.byte_at.Tie as tie
 
 shared-slice-read-result : tie.Need-shared-slice-read-result
 shared-slice-read-result c = search needs

@@ -1,11 +1,11 @@
--- `network_data::sub_in` meets its contract: at each `return` the tests that led there say which case of `subIn` holds.
+-- `network_framing::sub_in` meets its contract: at each `return` the tests that led there say which case of `subIn` holds.
 -- Assumes nothing.
 use borrow.Author.Needs.{needs}
 use mathlib.Core.Path.{sym}
 use borrow.Author.Tests.{lt-ltb, le-ltb, le-leb, lt-leb}
-use Rattle.network_data.specs.Frame.{subIn}
-use Rattle.network_data.proofs.sub_in.Statement.{statement}
-use Rattle.network_data.proofs.sub_in.Tie as tie
+use Rattle.network_framing.specs.Frame.{subIn}
+use Rattle.network_framing.proofs.sub_in.Statement.{statement}
+use Rattle.network_framing.proofs.sub_in.Tie as tie
 
 returns : tie.Need-returns
 unfolding subIn

@@ -12,11 +12,11 @@ use lib.ListN.{getD}
 use lib.Dec.{leb, ltb}
 use borrow.Author.Tests.{ltb-false, leb-true, leb-false, le-leb}
 use Rattle.laws.proofs.Tests.{pick-all}
-use Rattle.network_data.specs.Frame.{subIn}
-use Rattle.network_data.specs.Walk.{Walk, clean, short, done, onto, step, walk, walkIn, piece}
-use Rattle.network_data.proofs.SubTlv
-use Rattle.network_data.specs.declared.SubTlv.{SubTlv}
-use Rattle.network_data.specs.declared.SubTlv.the-variants.{Item, Cut, End}
+use Rattle.network_framing.specs.Frame.{subIn}
+use Rattle.network_framing.specs.Walk.{Walk, clean, short, done, onto, step, walk, walkIn, piece}
+use Rattle.network_framing.proofs.SubTlv
+use Rattle.network_framing.specs.declared.SubTlv.{SubTlv}
+use Rattle.network_framing.specs.declared.SubTlv.the-variants.{Item, Cut, End}
 
 -- where a TLV lies
 abbrev pub Inside : (at end : ℕ) → SubTlv → Type 0
