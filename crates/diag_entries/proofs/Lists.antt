@@ -30,7 +30,7 @@ use Rattle.diag_rows.specs.Rows.{part, addresses, addressListOf}
 use Rattle.diag_rules.specs.Rule.{valueOf}
 use Rattle.diag_rows.specs.declared.ChildIpv6AddrInfo.{ChildIpv6AddrInfo}
 use Rattle.diag_rules.proofs.Kept.{value-cases}
-use Rattle.diag_rows.proofs.Listing.{nth-head, nth-tail, nth-empty}
+use Rattle.laws.proofs.Numbered.{nth-head, nth-tail, nth-empty}
 use Rattle.diag_entries.specs.Parts.{allOf, entriesFrom}
 use Rattle.diag_entries.specs.Checked.{checked}
 use Rattle.diag_entries.specs.Lists.{addressList, addressLists, childList}

@@ -25,7 +25,7 @@ ghost use Rattle.diag_entries.specs.Loops.{listAt};
 fn check_entry(ty: u8, value: &[u8], place: usize) -> Judged
     ensures { λ r. ⌜ judgedAnswer r ≡ judged (entryValue ty place (now (value .entry))) ⌝ }
 {
-    if ty == diag_values::NETWORK_DATA {
+    if ty == diag_rules::NETWORK_DATA {
         return match network_data::check(value, place) {
             Checked::Counted(_) => Judged::Kept,
             Checked::Refused(r) => Judged::Refused(r),
@@ -72,7 +72,7 @@ pub fn next_child_list(payload: &[u8], place: usize) -> Found
     loop {
         match tlv::frame_at(payload, at) {
             Frame::Entry { ty, start, len } => {
-                if ty == diag_values::CHILD_IPV6_ADDRESSES {
+                if ty == diag_rules::CHILD_IPV6_ADDRESSES {
                     return Found::At {
                         place: at,
                         start: start,

@@ -1,4 +1,4 @@
-// Whether a value of a network-diagnostic payload keeps the rule of its type (decode.rs): the rule is one for its length.
+// The types of the values of a network-diagnostic payload, and whether a value keeps the rule of its type (decode.rs), which is one for its length.
 use refusal::Fault;
 use refusal::Refusal;
 ghost use mathlib.Core.Path.{_≡_};
@@ -7,6 +7,41 @@ ghost use lib.ListN.{length};
 ghost use Rattle.diag_rules.specs.Mask.{bitOf, routersOf, routesFit};
 ghost use Rattle.diag_rules.specs.Rule.{keepsRule, valueOf};
 ghost use Rattle.diag_rules.specs.Answers.{judgedAnswer, judged};
+
+// The types of the values, as decode.rs names them.
+pub const EXT_MAC_ADDRESS: u8 = 0;
+
+pub const MAC_ADDRESS: u8 = 1;
+
+pub const MODE: u8 = 2;
+
+pub const TIMEOUT: u8 = 3;
+
+pub const CONNECTIVITY: u8 = 4;
+
+pub const ROUTE64: u8 = 5;
+
+pub const LEADER_DATA: u8 = 6;
+
+pub const NETWORK_DATA: u8 = 7;
+
+pub const IPV6_ADDRESSES: u8 = 8;
+
+pub const MAC_COUNTERS: u8 = 9;
+
+pub const BATTERY_LEVEL: u8 = 14;
+
+pub const SUPPLY_VOLTAGE: u8 = 15;
+
+pub const CHILD_TABLE: u8 = 16;
+
+pub const CHANNEL_PAGES: u8 = 17;
+
+pub const TYPE_LIST: u8 = 18;
+
+pub const EUI64: u8 = 23;
+
+pub const CHILD_IPV6_ADDRESSES: u8 = 30;
 
 // Whether a value keeps the sizes and the rule of its type.
 pub enum Judged {

@@ -10,8 +10,6 @@ use crate::rows::put_list;
 use crate::rows::put_route;
 use crate::rows::put_rows;
 use diag_rows::ReadAddressList;
-use diag_rows::ReadRoute64;
-use diag_rows::Route64;
 use diag_rules::Judged;
 use diag_values::ModeData;
 use diag_values::Read8;
@@ -19,6 +17,8 @@ use diag_values::ReadConnectivity;
 use diag_values::ReadLeaderData;
 use diag_values::ReadMacCounters;
 use diag_values::ReadMode;
+use route64::ReadRoute64;
+use route64::Route64;
 use texts::Room;
 use texts::put_absent;
 use texts::put_byte;
@@ -228,7 +228,7 @@ pub(crate) fn put_bare(text: &mut Room, at: usize, ty: u8, value: &[u8]) -> usiz
     match ty {
         0 | 17 | 18 | 23 => put_bytes(text, at, ty, value),
         4 => put_bare_connectivity(text, at, ty, diag_values::decode_connectivity(value, 0)),
-        5 => put_bare_route64(text, at, ty, diag_rows::decode_route64(value, 0)),
+        5 => put_bare_route64(text, at, ty, route64::decode_route64(value, 0)),
         8 => put_addresses(text, at, ty, value),
         16 => put_children(text, at, ty, value),
         30 => put_bare_list(text, at, ty, value),

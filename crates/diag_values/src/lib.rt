@@ -12,41 +12,6 @@ ghost use Rattle.diag_rules.specs.Rule.{valueOf};
 ghost use Rattle.diag_values.specs.Values.{numberAt, modeOf, modeValue, leaderOf, countersOf, priorityOf, bufferOf, datagramsOf, connectivityOf};
 ghost use Rattle.diag_values.specs.Answers.{optAnswer8, optAnswer16, answer8, modeAnswer, connectivityPaper, connectivityAnswer, leaderAnswer, countersAnswer};
 
-// The types of the values, as decode.rs names them.
-pub const EXT_MAC_ADDRESS: u8 = 0;
-
-pub const MAC_ADDRESS: u8 = 1;
-
-pub const MODE: u8 = 2;
-
-pub const TIMEOUT: u8 = 3;
-
-pub const CONNECTIVITY: u8 = 4;
-
-pub const ROUTE64: u8 = 5;
-
-pub const LEADER_DATA: u8 = 6;
-
-pub const NETWORK_DATA: u8 = 7;
-
-pub const IPV6_ADDRESSES: u8 = 8;
-
-pub const MAC_COUNTERS: u8 = 9;
-
-pub const BATTERY_LEVEL: u8 = 14;
-
-pub const SUPPLY_VOLTAGE: u8 = 15;
-
-pub const CHILD_TABLE: u8 = 16;
-
-pub const CHANNEL_PAGES: u8 = 17;
-
-pub const TYPE_LIST: u8 = 18;
-
-pub const EUI64: u8 = 23;
-
-pub const CHILD_IPV6_ADDRESSES: u8 = 30;
-
 // A field that may be missing.
 pub enum OptU8 {
     Some(u8),
@@ -149,7 +114,7 @@ fn u32_at(v: &[u8], at: usize) -> u32
 pub fn read_u8(value: &[u8], place: usize) -> Read8
     ensures { λ r. ⌜ answer8 r ≡ onGiven (λ (v : List ℕ). byteAt v 0) (valueOf 14 place (now (value .entry))) ⌝ }
 {
-    match diag_rules::check_value(BATTERY_LEVEL, value, place) {
+    match diag_rules::check_value(diag_rules::BATTERY_LEVEL, value, place) {
         Judged::Kept => Read8::Value(value[0]),
         Judged::Refused(r) => Read8::Refused(r),
     }
@@ -171,7 +136,7 @@ impl ModeData {
     pub fn decode(value: &[u8], place: usize) -> ReadMode
         ensures { λ r. ⌜ modeAnswer r ≡ onGiven modeValue (valueOf 2 place (now (value .entry))) ⌝ }
     {
-        match diag_rules::check_value(MODE, value, place) {
+        match diag_rules::check_value(diag_rules::MODE, value, place) {
             Judged::Kept => ReadMode::Value(mode_of(value[0])),
             Judged::Refused(r) => ReadMode::Refused(r),
         }
@@ -195,7 +160,7 @@ fn leader_data_of(v: &[u8]) -> LeaderData
 pub fn decode_leader_data(value: &[u8], place: usize) -> ReadLeaderData
     ensures { λ r. ⌜ leaderAnswer r ≡ onGiven leaderOf (valueOf 6 place (now (value .entry))) ⌝ }
 {
-    match diag_rules::check_value(LEADER_DATA, value, place) {
+    match diag_rules::check_value(diag_rules::LEADER_DATA, value, place) {
         Judged::Kept => ReadLeaderData::Value(leader_data_of(value)),
         Judged::Refused(r) => ReadLeaderData::Refused(r),
     }
@@ -222,7 +187,7 @@ fn mac_counters_of(v: &[u8]) -> MacCounters
 pub fn decode_mac_counters(value: &[u8], place: usize) -> ReadMacCounters
     ensures { λ r. ⌜ countersAnswer r ≡ onGiven countersOf (valueOf 9 place (now (value .entry))) ⌝ }
 {
-    match diag_rules::check_value(MAC_COUNTERS, value, place) {
+    match diag_rules::check_value(diag_rules::MAC_COUNTERS, value, place) {
         Judged::Kept => ReadMacCounters::Value(mac_counters_of(value)),
         Judged::Refused(r) => ReadMacCounters::Refused(r),
     }
@@ -282,7 +247,7 @@ fn connectivity_of(v: &[u8]) -> Connectivity
 pub fn decode_connectivity(value: &[u8], place: usize) -> ReadConnectivity
     ensures { λ r. ⌜ connectivityAnswer r ≡ onGiven connectivityOf (valueOf 4 place (now (value .entry))) ⌝ }
 {
-    match diag_rules::check_value(CONNECTIVITY, value, place) {
+    match diag_rules::check_value(diag_rules::CONNECTIVITY, value, place) {
         Judged::Kept => ReadConnectivity::Value(connectivity_of(value)),
         Judged::Refused(r) => ReadConnectivity::Refused(r),
     }

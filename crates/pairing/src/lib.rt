@@ -86,7 +86,7 @@ fn count_lists(payload: &[u8]) -> Lists
         match tlv::frame_at(payload, at) {
             Frame::Entry { ty, start, len } => {
                 let next = start + len;
-                if ty == diag_values::CHILD_IPV6_ADDRESSES {
+                if ty == diag_rules::CHILD_IPV6_ADDRESSES {
                     let id = list_id(&payload[start..next]);
                     count[id] = count[id] + 1;
                     place[id] = n;
@@ -145,7 +145,7 @@ pub fn pair(payload: &[u8], out: &mut [u16]) -> Answered
         }
         Counted::Entries(_) => {}
     }
-    let table = tlv::last_value(payload, diag_values::CHILD_TABLE);
+    let table = tlv::last_value(payload, diag_rules::CHILD_TABLE);
     let n = table.len() / 3;
     if n > out.len() {
         return Answered::Refused(Refusal {
@@ -168,7 +168,7 @@ pub fn pair_row(payload: &[u8], k: usize) -> ReadPairing
         }
         Counted::Entries(_) => {}
     }
-    let table = tlv::last_value(payload, diag_values::CHILD_TABLE);
+    let table = tlv::last_value(payload, diag_rules::CHILD_TABLE);
     if k >= table.len() / 3 {
         return ReadPairing::Absent;
     }

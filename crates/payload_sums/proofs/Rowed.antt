@@ -7,7 +7,7 @@ use native.Mathlib.Omega.{arith}
 use lib.ListN.{length, getD}
 use Rattle.refusal.specs.Answer.{Answer, given, absent, refused, onGiven}
 use Rattle.tlv.specs.Entries.{Entry, entry, framing}
-use Rattle.diag_rows.specs.Routes.{routeOf}
+use Rattle.route64.specs.Routes.{routeOf}
 use Rattle.diag_rows.specs.Rows.{Part, childRows, addresses, addressListOf}
 use Rattle.diag_rules.specs.Rule.{valueOf}
 use Rattle.diag_rules.specs.Answers.{judged}

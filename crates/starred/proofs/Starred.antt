@@ -15,7 +15,7 @@ use Rattle.network_framing.specs.Walk as walk
 use Rattle.network_data.specs.Rules as rules
 use Rattle.network_data.specs.Decode as decode
 use Rattle.diag_rules.specs.Mask.{bitOf, routers, routersOf, routesFit}
-use Rattle.diag_rows.specs.Routes.{rowsOf, routeRows}
+use Rattle.route64.specs.Routes.{rowsOf, routeRows}
 use Rattle.diag_rows.specs.Rows.{listed, childRows, timeoutSeconds}
 use Rattle.diag_rules.specs.Rule.{keepsRule, valueOf}
 use Rattle.starred.specs.Sheet.{Holds, sheet}

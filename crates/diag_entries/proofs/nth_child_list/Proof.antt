@@ -12,7 +12,7 @@ use Rattle.tlv.specs.Last.{spot}
 use Rattle.tlv.specs.Answers.{foundAnswer}
 use Rattle.tlv.proofs.Walks.{from, from-start}
 use Rattle.refusal.specs.Numbered.{nth}
-use Rattle.diag_rows.proofs.Listing.{nth-empty}
+use Rattle.laws.proofs.Numbered.{nth-empty}
 use Rattle.diag_entries.specs.Parts.{allOf}
 use Rattle.diag_entries.proofs.Lists.{follows, none-left, nth-here, nth-past}
 use Rattle.diag_entries.proofs.nth_child_list.Statement.{statement}

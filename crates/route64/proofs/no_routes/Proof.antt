@@ -1,9 +1,9 @@
--- `diag_rows::no_routes` meets its contract.
+-- `route64::no_routes` meets its contract.
 -- Assumes nothing.
-use Rattle.diag_rows.specs.Routes.{table, zeroRoutes}
+use Rattle.route64.specs.Routes.{table, zeroRoutes}
 use borrow.Author.Needs.{needs}
-use Rattle.diag_rows.proofs.no_routes.Statement.{statement}
-use Rattle.diag_rows.proofs.no_routes.Tie as tie
+use Rattle.route64.proofs.no_routes.Statement.{statement}
+use Rattle.route64.proofs.no_routes.Tie as tie
 
 route-row-requires : tie.Need-route-row-requires
 route-row-requires c κs = search needs

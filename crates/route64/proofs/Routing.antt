@@ -14,10 +14,10 @@ use Rattle.refusal.specs.Number.{refusalAnswer}
 use Rattle.refusal.specs.declared.Refusal.{Refusal}
 use Rattle.diag_rules.specs.Rule.{valueOf}
 use Rattle.diag_rules.specs.Answers.{judged}
-use Rattle.diag_rows.specs.declared.Route64.{Route64}
-use Rattle.diag_rows.specs.declared.RouteDataEntry.{RouteDataEntry}
+use Rattle.route64.specs.declared.Route64.{Route64}
+use Rattle.route64.specs.declared.RouteDataEntry.{RouteDataEntry}
 use Rattle.diag_rules.specs.Mask.{byteAt, assigned, routersOf, routesFit}
-use Rattle.diag_rows.specs.Routes.{routed, routeOf, maskOf, routes, zeroRoutes, laidOut, routeRow, rowsOf, routeRows, table}
+use Rattle.route64.specs.Routes.{routed, routeOf, maskOf, routes, zeroRoutes, laidOut, routeRow, rowsOf, routeRows, table}
 use Rattle.diag_rules.proofs.Kept.{Keeps, kept, read-refused}
 use Rattle.diag_rules.proofs.Mask.{rest, rest-all, rest-hit, rest-miss, rest-end, few, fit-length}
 

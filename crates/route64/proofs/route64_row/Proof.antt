@@ -1,17 +1,17 @@
--- `diag_rows::route64_row` meets its contract.
+-- `route64::route64_row` meets its contract.
 -- Assumes nothing.
 use mathlib.Core.Path.{sym, ap, _∙_}
 use mathlib.Core.List.{List}
 use Prim.Native.Nat.{ℕ}
 use native.Mathlib.Omega.{arith}
-use Rattle.diag_rows.specs.Routes.{routeRows}
+use Rattle.route64.specs.Routes.{routeRows}
 use Rattle.refusal.specs.Numbered.{nth}
 use Rattle.diag_rules.specs.Answers.{judgedAnswer}
 use Rattle.diag_rules.proofs.Kept.{row-kept, row-refused, routes-fit}
 use Rattle.diag_rules.proofs.Mask.{fit-length}
 use borrow.Author.Needs.{needs}
-use Rattle.diag_rows.proofs.route64_row.Statement.{statement}
-use Rattle.diag_rows.proofs.route64_row.Tie as tie
+use Rattle.route64.proofs.route64_row.Statement.{statement}
+use Rattle.route64.proofs.route64_row.Tie as tie
 
 check-value-requires : tie.Need-check-value-requires
 check-value-requires c κs = search needs

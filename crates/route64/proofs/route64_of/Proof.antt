@@ -1,12 +1,12 @@
--- `diag_rows::route64_of` meets its contract.
+-- `route64::route64_of` meets its contract.
 -- Assumes nothing.
 use mathlib.Core.Path.{sym}
 use native.Mathlib.Omega.{arith}
-use Rattle.diag_values.proofs.Numbers.{part-elements}
-use Rattle.diag_rows.proofs.Routing.{routes-are}
+use Rattle.laws.proofs.Parts.{part-elements}
+use Rattle.route64.proofs.Routing.{routes-are}
 use borrow.Author.Needs.{needs}
-use Rattle.diag_rows.proofs.route64_of.Statement.{statement}
-use Rattle.diag_rows.proofs.route64_of.Tie as tie
+use Rattle.route64.proofs.route64_of.Statement.{statement}
+use Rattle.route64.proofs.route64_of.Tie as tie
 
 route-rows-requires : tie.Need-route-rows-requires
 route-rows-requires c κs = search needs

@@ -1,17 +1,17 @@
--- `diag_rows::route_at` meets its contract. The invariant: row `left` of the rows from router i on, whose bytes start at `at`, is row k of all.
+-- `route64::route_at` meets its contract. The invariant: row `left` of the rows from router i on, whose bytes start at `at`, is row k of all.
 -- Assumes nothing.
 use mathlib.Core.Path.{_≡_, sym, ap, _∙_}
 use Prim.Native.Nat.{_+_, _-_, _≤_}
 use native.Mathlib.Omega.{arith}
 use lib.ListN.{length}
 use Rattle.refusal.specs.Answer.{given}
-use Rattle.diag_rows.specs.Routes.{routeRows}
+use Rattle.route64.specs.Routes.{routeRows}
 use Rattle.refusal.specs.Numbered.{nth}
-use Rattle.diag_rows.proofs.Routing.{rowsFrom, row-start, row-out, row-end, row-hit, row-miss}
-use Rattle.diag_rows.proofs.Listing.{nth-empty, nth-head, nth-tail, nth-same}
+use Rattle.route64.proofs.Routing.{rowsFrom, row-start, row-out, row-end, row-hit, row-miss}
+use Rattle.laws.proofs.Numbered.{nth-empty, nth-head, nth-tail, nth-same}
 use borrow.Author.Needs.{needs}
-use Rattle.diag_rows.proofs.route_at.Statement.{statement}
-use Rattle.diag_rows.proofs.route_at.Tie as tie
+use Rattle.route64.proofs.route_at.Statement.{statement}
+use Rattle.route64.proofs.route_at.Tie as tie
 
 abbrev Inv-loop : tie.InvT-loop
 Inv-loop v k left₀ at₀ i₀ left at i =

@@ -1,14 +1,14 @@
--- `diag_rows::route_rows` meets its contract. The invariant: what is laid, with the rows of the routers from k on, is the whole table.
+-- `route64::route_rows` meets its contract. The invariant: what is laid, with the rows of the routers from k on, is the whole table.
 -- Assumes nothing.
 use mathlib.Core.Path.{_≡_, sym, ap, _∙_}
 use Prim.Native.Nat.{_+_, _-_, _≤_}
 use native.Mathlib.Omega.{arith}
 use lib.ListN.{length, length-set}
 use Rattle.diag_rules.proofs.Mask.{rest, rest-all, rest-hit, rest-miss, fit-length}
-use Rattle.diag_rows.proofs.Routing.{Laid, laid-start, laid-hit, laid-miss, laid-end}
+use Rattle.route64.proofs.Routing.{Laid, laid-start, laid-hit, laid-miss, laid-end}
 use borrow.Author.Needs.{needs}
-use Rattle.diag_rows.proofs.route_rows.Statement.{statement}
-use Rattle.diag_rows.proofs.route_rows.Tie as tie
+use Rattle.route64.proofs.route_rows.Statement.{statement}
+use Rattle.route64.proofs.route_rows.Tie as tie
 
 abbrev Inv-loop : tie.InvT-loop
 Inv-loop v rows₀ n₀ k₀ rows n k =

@@ -1,14 +1,14 @@
--- `diag_rows::decode_route64` meets its contract.
+-- `route64::decode_route64` meets its contract.
 -- Assumes nothing.
 use mathlib.Core.Path.{sym, ap, _∙_}
 use native.Mathlib.Omega.{arith}
 use Rattle.diag_rules.specs.Answers.{judgedAnswer}
 use Rattle.diag_rules.proofs.Kept.{routes-fit}
 use Rattle.diag_rules.proofs.Mask.{fit-length}
-use Rattle.diag_rows.proofs.Routing.{laid-kept, laid-refused}
+use Rattle.route64.proofs.Routing.{laid-kept, laid-refused}
 use borrow.Author.Needs.{needs}
-use Rattle.diag_rows.proofs.decode_route64.Statement.{statement}
-use Rattle.diag_rows.proofs.decode_route64.Tie as tie
+use Rattle.route64.proofs.decode_route64.Statement.{statement}
+use Rattle.route64.proofs.decode_route64.Tie as tie
 
 check-value-requires : tie.Need-check-value-requires
 check-value-requires c κs = search needs

@@ -6,8 +6,8 @@ use mathlib.Core.List.{List, [], _∷_, _++_}
 use lib.ListN.{length, take, drop, replicate}
 use Rattle.refusal.specs.Answer.{Answer, given, absent, refused}
 use Rattle.diag_rules.specs.Mask.{byteAt, routersOf}
-use Rattle.diag_rows.specs.declared.RouteDataEntry.{RouteDataEntry}
-use Rattle.diag_rows.specs.declared.Route64.{Route64}
+use Rattle.route64.specs.declared.RouteDataEntry.{RouteDataEntry}
+use Rattle.route64.specs.declared.Route64.{Route64}
 
 abbrev pub routeRow : (router byte : ℕ) → RouteDataEntry
 routeRow k b = record { «router_id» = k; «outgoing_link_quality» = b / 64 % 4; «incoming_link_quality» = b / 16 % 4; «route_cost» = b % 16 }
