@@ -73,7 +73,7 @@ pub enum OptNetworkData {
     None,
 }
 
-// A payload's values, the last of each type; of type 30 how many lists there are (`diag_entries::child_list` hands them out).
+// A payload's values, the last of each type; of type 30 how many lists there are (`child_lists::child_list` hands them out).
 pub struct NetDiagData {
     pub ext_mac_addr: OptPart,
     pub mac_addr: OptU16,

@@ -176,7 +176,7 @@ fn put_row(text: &mut Room, at: usize, rows: Rows, s: &[u8], k: usize) -> usize 
     match rows {
         Rows::Routes => put_read_route(text, at, route64::route64_row(s, k)),
         Rows::Children => put_read_child(text, at, diag_rows::child_row(s, k)),
-        Rows::Lists => put_read_list(text, at, s, diag_entries::child_list(s, k)),
+        Rows::Lists => put_read_list(text, at, s, child_lists::child_list(s, k)),
         Rows::Prefixes => put_read_prefix(text, at, network_tables::prefix_at(s, k)),
         Rows::HasRoutes => put_read_has_route(text, at, network_tables::has_route_at(s, k)),
         Rows::BorderRouters => put_read_border_router(

@@ -25,6 +25,7 @@ pub mod DiagValues
 pub mod Route64
 pub mod DiagRows
 pub mod DiagEntries
+pub mod ChildLists
 pub mod Diag
 pub mod DiagTables
 pub mod DiagBridge

@@ -186,7 +186,7 @@ fn lists_sum(payload: &[u8]) -> u64
     let mut n: u64 = 0;
     let mut at: usize = 0;
     loop {
-        match diag_entries::next_child_list(payload, at) {
+        match child_lists::next_child_list(payload, at) {
             Found::At {
                 place: _,
                 start,

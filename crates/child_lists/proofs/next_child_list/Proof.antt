@@ -1,4 +1,4 @@
--- `diag_entries::next_child_list` meets its contract. The invariant: the first entry of type 30 from the place at on is the answer. The measure is what
+-- `child_lists::next_child_list` meets its contract. The invariant: the first entry of type 30 from the place at on is the answer. The measure is what
 -- is left of the payload.
 -- Assumes nothing.
 use mathlib.Core.Path.{_≡_, sym, ap, _∙_}
@@ -10,10 +10,11 @@ use Rattle.refusal.specs.Answer.{onGiven}
 use Rattle.tlv.specs.Last.{spot}
 use Rattle.tlv.proofs.Walks.{from, turn-entries, turn-none, turn-inside}
 use Rattle.refusal.specs.Numbered.{nth}
-use Rattle.diag_entries.specs.Parts.{allOf, entriesFrom}
-use Rattle.diag_entries.proofs.Lists.{from-there, next-here, next-past, next-none}
-use Rattle.diag_entries.proofs.next_child_list.Statement.{statement}
-use Rattle.diag_entries.proofs.next_child_list.Tie as tie
+use Rattle.diag_entries.specs.Parts.{allOf}
+use Rattle.child_lists.specs.From.{entriesFrom}
+use Rattle.child_lists.proofs.Lists.{from-there, next-here, next-past, next-none}
+use Rattle.child_lists.proofs.next_child_list.Statement.{statement}
+use Rattle.child_lists.proofs.next_child_list.Tie as tie
 
 abbrev Inv-loop : tie.InvT-loop
 Inv-loop payload place at₀ at = allOf 30 (from payload at .entries) ≡ allOf 30 (entriesFrom payload place)

@@ -1,13 +1,13 @@
--- `diag_entries::child_list` meets its contract, by what the check of the payload answered and by what was found.
+-- `child_lists::child_list` meets its contract, by what the check of the payload answered and by what was found.
 -- Assumes nothing.
 use mathlib.Core.Path.{sym, ap, _∙_}
 use Rattle.tlv.specs.Answers.{countedAnswer, foundAnswer}
 use Rattle.diag_entries.specs.Lists.{childList}
 use Rattle.diag_entries.proofs.Checks.{checked-given, checked-refused}
-use Rattle.diag_entries.proofs.Lists.{child-found, child-none}
+use Rattle.child_lists.proofs.Lists.{child-found, child-none}
 use borrow.Author.Needs.{needs}
-use Rattle.diag_entries.proofs.child_list.Statement.{statement}
-use Rattle.diag_entries.proofs.child_list.Tie as tie
+use Rattle.child_lists.proofs.child_list.Statement.{statement}
+use Rattle.child_lists.proofs.child_list.Tie as tie
 
 check-values-requires : tie.Need-check-values-requires
 check-values-requires c κs = search needs

@@ -31,14 +31,15 @@ use Rattle.diag_rules.specs.Rule.{valueOf}
 use Rattle.diag_rows.specs.declared.ChildIpv6AddrInfo.{ChildIpv6AddrInfo}
 use Rattle.diag_rules.proofs.Kept.{value-cases}
 use Rattle.laws.proofs.Numbered.{nth-head, nth-tail, nth-empty}
-use Rattle.diag_entries.specs.Parts.{allOf, entriesFrom}
+use Rattle.diag_entries.specs.Parts.{allOf}
+use Rattle.child_lists.specs.From.{entriesFrom}
 use Rattle.diag_entries.specs.Checked.{checked}
 use Rattle.diag_entries.specs.Lists.{addressList, addressLists, childList}
 use Rattle.diag_entries.specs.Answers.{saidAt}
-use Rattle.diag_entries.specs.Loops.{listAt}
+use Rattle.child_lists.specs.Loops.{listAt}
 use Rattle.diag_entries.proofs.Lasts.{all-hit, all-miss, all-none}
 use Rattle.diag_entries.proofs.Checks.{Decodes, entry-other}
 use Rattle.diag_entries.proofs.Sound.{Of, Sound, all-sound}
 
 -- what the contract of `next_child_list` speaks of is the walk from there on
 pub from-there : (s : List ℕ) (at : ℕ) → entriesFrom s at ≡ from s at .entries

@@ -1,4 +1,4 @@
--- `diag_entries::nth_child_list` meets its contract. The invariant: of the entries of type 30 from the place at on, the one that is `left` further on is the
+-- `child_lists::nth_child_list` meets its contract. The invariant: of the entries of type 30 from the place at on, the one that is `left` further on is the
 -- answer. The measure is what is left of the payload.
 -- Assumes nothing.
 use mathlib.Core.Path.{_≡_, sym, ap, _∙_}
@@ -13,10 +13,10 @@ use Rattle.tlv.specs.Answers.{foundAnswer}
 use Rattle.tlv.proofs.Walks.{from, from-start}
 use Rattle.refusal.specs.Numbered.{nth}
 use Rattle.laws.proofs.Numbered.{nth-empty}
 use Rattle.diag_entries.specs.Parts.{allOf}
-use Rattle.diag_entries.proofs.Lists.{follows, none-left, nth-here, nth-past}
-use Rattle.diag_entries.proofs.nth_child_list.Statement.{statement}
-use Rattle.diag_entries.proofs.nth_child_list.Tie as tie
+use Rattle.child_lists.proofs.Lists.{follows, none-left, nth-here, nth-past}
+use Rattle.child_lists.proofs.nth_child_list.Statement.{statement}
+use Rattle.child_lists.proofs.nth_child_list.Tie as tie
 
 abbrev Inv-loop : tie.InvT-loop
 Inv-loop payload k left₀ at₀ left at = (at ≤ length payload) × (nth (allOf 30 (from payload at .entries)) left ≡ nth (allOf 30 (framing payload .entries)) k)

@@ -5,8 +5,8 @@ use mathlib.Core.List.{List}
 use Prim.Native.Nat.{ℕ}
 use Rattle.refusal.proofs.Papers.{Tells, tells, refusal-back, codeOf}
 use Rattle.diag_rows.specs.declared.ReadAddressList.the-variants as a
 use Rattle.diag_entries.specs.Lists.{AddressList}
-use Rattle.diag_entries.specs.Answers.{childListAnswer}
+use Rattle.child_lists.specs.Answers.{childListAnswer}
 
 pub child-list-tells : (s : List ℕ) → Tells (childListAnswer s)
 child-list-tells s =

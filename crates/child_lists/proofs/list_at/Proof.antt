@@ -1,13 +1,13 @@
--- `diag_entries::list_at` meets its contract, by what the decoder answered.
+-- `child_lists::list_at` meets its contract, by what the decoder answered.
 -- Assumes nothing.
 use mathlib.Core.Path.{sym, ap, _∙_}
 use native.Mathlib.Omega.{arith}
 use native.Mathlib.Nat.{add-sub-cancel-left}
 use Rattle.diag_rows.specs.Answers.{addressListAnswer}
-use Rattle.diag_entries.proofs.Lists.{list-read, list-starts, list-other, list-refused}
+use Rattle.child_lists.proofs.Lists.{list-read, list-starts, list-other, list-refused}
 use borrow.Author.Needs.{needs}
-use Rattle.diag_entries.proofs.list_at.Statement.{statement}
-use Rattle.diag_entries.proofs.list_at.Tie as tie
+use Rattle.child_lists.proofs.list_at.Statement.{statement}
+use Rattle.child_lists.proofs.list_at.Tie as tie
 
 add-decode-child-ipv6-addresses : tie.Need-add-decode-child-ipv6-addresses
 add-decode-child-ipv6-addresses c = search needs
