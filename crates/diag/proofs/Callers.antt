@@ -1,5 +1,5 @@
 -- What a caller of `decode` learns from a record: the entries that were checked, that the record is theirs, and that a part in it is the last value
--- of its type. (For the lists of type 30: `follows` and `none-left`, diag_entries/proofs/Lists.antt.)
+-- of its type. (For the lists of type 30: `follows` and `none-left`, child_lists/proofs/Lists.antt.)
 -- Assumes nothing.
 use mathlib.Core.Path.{_≡_, refl, sym, ap, _∙_}
 use mathlib.Core.List.{List}

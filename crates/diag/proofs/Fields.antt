@@ -23,7 +23,7 @@ use Rattle.tlv.specs.declared.Found.{Found}
 use Rattle.tlv.specs.declared.Found.the-variants as f
 use Rattle.network_data.specs.Decode.{Prefix, contents, countsOf, decodeNetworkData}
 use Rattle.network_data.specs.declared.Counts.{Counts}
-use Rattle.diag_values.specs.Rule.{keepsRule, valueOf}
+use Rattle.diag_rules.specs.Rule.{keepsRule, valueOf}
 use Rattle.diag_values.specs.Answers.{answer8, modeAnswer, connectivityAnswer, leaderAnswer, countersAnswer}
 use Rattle.diag_values.proofs.Read8
 use Rattle.diag_values.specs.declared.Read8.{Read8}

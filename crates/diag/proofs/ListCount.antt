@@ -1,4 +1,4 @@
--- The record's count and the lists of `diag_entries::child_list` are of one list.
+-- The record's count and the lists of `child_lists::child_list` are of one list.
 -- Assumes nothing.
 use mathlib.Core.Path.{_≡_, refl}
 use mathlib.Core.List.{List, [], _∷_}

@@ -15,8 +15,8 @@ use Rattle.laws.proofs.Tests.{by-test}
 use Rattle.tlv.specs.Entries.{Entry, framing}
 use Rattle.tlv.specs.Last.{lastOf}
 use Rattle.tlv.proofs.Walks.{Lies, framing-lies}
-use Rattle.diag_values.specs.Rule.{keepsRule}
-use Rattle.diag_values.proofs.Kept.{value-kept, other-kept}
+use Rattle.diag_rules.specs.Rule.{keepsRule}
+use Rattle.diag_rules.proofs.Kept.{value-kept, other-kept}
 use Rattle.diag_entries.specs.Parts.{allOf}
 use Rattle.diag_entries.specs.Checked.{entryValue, decoding}
 use Rattle.diag_entries.specs.Lists.{addressLists}

@@ -6,7 +6,7 @@ use Rattle.refusal.specs.Answer.{Answer, given, absent, onGiven}
 use Rattle.refusal.specs.Number.{refusalAnswer}
 use Rattle.network_data.specs.Decode.{contents}
 use Rattle.diag_values.specs.Values.{ConnectivityValue}
-use Rattle.diag_rows.specs.Routes.{routeOf}
+use Rattle.route64.specs.Routes.{routeOf}
 use Rattle.diag_rows.specs.Rows.{Part, part, childRows, addresses}
 use Rattle.diag_values.specs.Answers.{optAnswer8, optAnswer16, connectivityPaper}
 use Rattle.diag_values.specs.declared.ModeData.{ModeData}

@@ -11,9 +11,9 @@ use Rattle.tlv.specs.Entries.{framing}
 use Rattle.tlv.specs.Last.{Spot, spotAt, spot}
 use Rattle.network_data.specs.Decode.{Prefix, contents, countsOf, decodeNetworkData}
 use Rattle.diag_values.specs.Values.{modeValue, connectivityOf, leaderOf, countersOf}
-use Rattle.diag_rows.specs.Routes.{routeOf}
+use Rattle.route64.specs.Routes.{routeOf}
 use Rattle.diag_rows.specs.Rows.{Part, part, childRows, addresses}
-use Rattle.diag_values.specs.Rule.{valueOf}
+use Rattle.diag_rules.specs.Rule.{valueOf}
 use Rattle.diag_entries.specs.Parts.{last, allOf, Said}
 use Rattle.diag_entries.specs.Answers.{bytesAt, saidAt}
 use Rattle.diag.specs.Diag.{NetworkDataValue, raw, byteOf, Diag}

@@ -73,7 +73,7 @@ pub enum OptNetworkData {
     None,
 }
 
-// A payload's values, the last of each type; of type 30 how many lists there are (`diag_entries::child_list` hands them out).
+// A payload's values, the last of each type; of type 30 how many lists there are (`child_lists::child_list` hands them out).
 pub struct NetDiagData {
     pub ext_mac_addr: OptPart,
     pub mac_addr: OptU16,
@@ -309,23 +309,23 @@ fn collect(payload: &[u8]) -> NetDiagData
 {
     let p = find_all(payload);
     NetDiagData {
-        ext_mac_addr: part_at(p, diag_values::EXT_MAC_ADDRESS),
-        mac_addr: u16_in(payload, found_at(p, diag_values::MAC_ADDRESS)),
-        mode: mode_in(payload, found_at(p, diag_values::MODE)),
-        timeout: u32_in(payload, found_at(p, diag_values::TIMEOUT)),
-        connectivity: connectivity_in(payload, found_at(p, diag_values::CONNECTIVITY)),
-        route64: part_at(p, diag_values::ROUTE64),
-        leader_data: leader_data_in(payload, found_at(p, diag_values::LEADER_DATA)),
-        network_data: network_data_in(payload, found_at(p, diag_values::NETWORK_DATA)),
-        addresses: part_at(p, diag_values::IPV6_ADDRESSES),
-        mac_counters: mac_counters_in(payload, found_at(p, diag_values::MAC_COUNTERS)),
-        battery_level: u8_in(payload, found_at(p, diag_values::BATTERY_LEVEL)),
-        supply_voltage: u16_in(payload, found_at(p, diag_values::SUPPLY_VOLTAGE)),
-        child_table: part_at(p, diag_values::CHILD_TABLE),
-        channel_pages: part_at(p, diag_values::CHANNEL_PAGES),
-        type_list: part_at(p, diag_values::TYPE_LIST),
-        eui64: part_at(p, diag_values::EUI64),
-        child_ipv6_addresses: p.count[diag_values::CHILD_IPV6_ADDRESSES as usize],
+        ext_mac_addr: part_at(p, diag_rules::EXT_MAC_ADDRESS),
+        mac_addr: u16_in(payload, found_at(p, diag_rules::MAC_ADDRESS)),
+        mode: mode_in(payload, found_at(p, diag_rules::MODE)),
+        timeout: u32_in(payload, found_at(p, diag_rules::TIMEOUT)),
+        connectivity: connectivity_in(payload, found_at(p, diag_rules::CONNECTIVITY)),
+        route64: part_at(p, diag_rules::ROUTE64),
+        leader_data: leader_data_in(payload, found_at(p, diag_rules::LEADER_DATA)),
+        network_data: network_data_in(payload, found_at(p, diag_rules::NETWORK_DATA)),
+        addresses: part_at(p, diag_rules::IPV6_ADDRESSES),
+        mac_counters: mac_counters_in(payload, found_at(p, diag_rules::MAC_COUNTERS)),
+        battery_level: u8_in(payload, found_at(p, diag_rules::BATTERY_LEVEL)),
+        supply_voltage: u16_in(payload, found_at(p, diag_rules::SUPPLY_VOLTAGE)),
+        child_table: part_at(p, diag_rules::CHILD_TABLE),
+        channel_pages: part_at(p, diag_rules::CHANNEL_PAGES),
+        type_list: part_at(p, diag_rules::TYPE_LIST),
+        eui64: part_at(p, diag_rules::EUI64),
+        child_ipv6_addresses: p.count[diag_rules::CHILD_IPV6_ADDRESSES as usize],
     }
 }
 

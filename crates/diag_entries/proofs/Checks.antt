@@ -16,9 +16,9 @@ use Rattle.tlv.proofs.Walks.{from, from-start}
 use Rattle.tlv.proofs.Tally.{Only, only, counted-given, counted-refused, counted-number}
 use Rattle.network_data.specs.Decode.{Prefix, countsOf, decodeNetworkData}
 use Rattle.network_data.specs.declared.Counts.{Counts}
-use Rattle.diag_values.specs.Rule.{valueOf}
-use Rattle.diag_values.specs.Answers.{judged}
-use Rattle.diag_values.proofs.Kept.{kept}
+use Rattle.diag_rules.specs.Rule.{valueOf}
+use Rattle.diag_rules.specs.Answers.{judged}
+use Rattle.diag_rules.proofs.Kept.{kept}
 use Rattle.diag_entries.specs.Checked.{entryValue, decoding, checked}
 
 -- ---- the value of one entry

@@ -1,5 +1,3 @@
 pub mod Lasts
 pub mod Checks
 pub mod Sound
-pub mod Lists
-pub mod Papers

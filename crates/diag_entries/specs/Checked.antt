@@ -8,7 +8,7 @@ use Rattle.refusal.specs.Answer.{pick, Answer, given, thenDo, onGiven}
 use Rattle.tlv.specs.Entries.{Entry}
 use Rattle.tlv.specs.Limits.{framed}
 use Rattle.network_data.specs.Decode.{Prefix, decodeNetworkData}
-use Rattle.diag_values.specs.Rule.{valueOf}
+use Rattle.diag_rules.specs.Rule.{valueOf}
 
 -- the value of an entry of a type at a place, or its fault: Network Data has rules of its own, every other type one for its length
 unfoldable pub entryValue : (ty place : ℕ) → List ℕ → Answer (List ℕ)

@@ -2,4 +2,3 @@ pub mod Parts
 pub mod Checked
 pub mod Lists
 pub mod Answers
-pub mod Loops

@@ -3,10 +3,10 @@
 -- Assumes nothing.
 use Prim.Native.Nat.{ℕ}
 use mathlib.Core.List.{List, [], _∷_}
-use lib.ListN.{length, drop}
+use lib.ListN.{length}
 use lib.Dec.{eqb}
 use Rattle.refusal.specs.Answer.{pick, Answer, absent, onGiven}
-use Rattle.tlv.specs.Entries.{Entry, frames}
+use Rattle.tlv.specs.Entries.{Entry}
 use Rattle.tlv.specs.Last.{lastOf}
 
 -- all of es that have the type, in order
@@ -33,7 +33,3 @@ lastSays ty f es = onGiven (λ (e : Entry). f (e .value)) (last ty es)
 
 abbrev pub lastPart : {A : Type 0} → (ty : ℕ) → (List ℕ → A) → List Entry → Answer (Said A)
 lastPart ty f es = onGiven (said f) (last ty es)
-
--- the entries from a place of s on, where one begins
-unfoldable pub entriesFrom : List ℕ → ℕ → List Entry
-entriesFrom s at = frames (length s) at (drop at s) .entries

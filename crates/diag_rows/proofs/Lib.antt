@@ -1,4 +1,3 @@
-pub mod Routing
 pub mod Listing
 pub mod Within
 pub mod Papers

@@ -1,8 +1,8 @@
--- One row of a list by its number: of a list that is made by a function, as child rows and addresses are, and of one that is walked.
+-- One row of a list by its number, of a list that is made by a function, as child rows and addresses are.
 -- Assumes nothing.
 use mathlib.Core.Path.{_≡_, refl, sym, ap, _∙_}
-use mathlib.Core.List.{List, [], _∷_}
-use Prim.Native.Nat.{ℕ, zero, suc, _+_, _-_, _*_, _/_, _≤_, _<_}
+use mathlib.Core.List.{List}
+use Prim.Native.Nat.{ℕ, zero, suc, _+_, _*_, _/_, _≤_, _<_}
 use native.Mathlib.Omega.{arith}
 use lib.ListN.{length, take, drop}
 use lib.Dec.{ltb}
@@ -11,11 +11,9 @@ use Rattle.laws.proofs.Tests.{by-test}
 use Rattle.refusal.specs.Answer.{Answer, given, absent, onGiven, thenDo}
 use Rattle.refusal.specs.Numbered.{nth}
 use Rattle.diag_rows.specs.Rows.{listed, childAt, childRows, addresses, Part, part, addressParts, orEmpty}
-use Rattle.diag_values.specs.Rule.{valueOf}
+use Rattle.diag_rules.specs.Rule.{valueOf}
 use Rattle.diag_rows.specs.declared.ChildTableEntry.{ChildTableEntry}
-use Rattle.diag_values.proofs.Kept.{value-cases}
-
--- ---- of a list that is made by a function
+use Rattle.diag_rules.proofs.Kept.{value-cases}
 
 nth-in : {A : Type 0} (f : ℕ → A) (n k : ℕ) → k < n → nth (listed f n) k ≡ given (f k)
 unfolding listed nth
@@ -28,37 +26,6 @@ unfolding listed nth
 nth-out f zero k h = refl
 nth-out f (suc n) zero h = absurd (omega arith)
 nth-out f (suc n) (suc k) h = nth-out (λ j. f (suc j)) n k (omega arith)
-
--- ---- of a list by its first row
-
-module _ {A : Type 0} (x : A) (xs : List A) (k : ℕ) where
-  nth-first : k ≡ 0 → nth (x ∷ xs) k ≡ given x
-  unfolding nth
-  nth-first h = rw h
-
-  nth-later : (k ≡ 0 → ⊥) → nth (x ∷ xs) k ≡ nth xs (k - 1)
-  unfolding nth
-  nth-later h = let z : k ≡ suc (k - 1) = omega arith in ap (nth (x ∷ xs)) z
-
-nth-none : {A : Type 0} (k : ℕ) → nth {A = A} [] k ≡ absent
-unfolding nth
-nth-none k = refl
-
--- ---- of a list that is known by an equation
-
-pub nth-same : {A : Type 0} (l m : List A) (k : ℕ) → l ≡ m → nth l k ≡ nth m k
-nth-same l m k e = ap (λ (x : List _). nth x k) e
-
-module _ {A : Type 0} (l : List A) (k : ℕ) where
-  pub nth-empty : l ≡ [] → nth l k ≡ absent
-  nth-empty e = ap (λ (x : List A). nth x k) e ∙ nth-none k
-
-  module _ (x : A) (xs : List A) (e : l ≡ x ∷ xs) where
-    pub nth-head : k ≡ 0 → nth l k ≡ given x
-    nth-head h = ap (λ (y : List A). nth y k) e ∙ nth-first x xs k h
-
-    pub nth-tail : (k ≡ 0 → ⊥) → nth l k ≡ nth xs (k - 1)
-    nth-tail h = ap (λ (y : List A). nth y k) e ∙ nth-later x xs k h
 
 -- ---- rows of a child table, and parts that are addresses
 

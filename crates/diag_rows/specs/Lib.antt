@@ -1,3 +1,2 @@
-pub mod Routes
 pub mod Rows
 pub mod Answers

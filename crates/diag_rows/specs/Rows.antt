@@ -5,7 +5,8 @@ use mathlib.Core.List.{List, [], _∷_}
 use lib.ListN.{length, take, drop}
 use lib.Dec.{ltb}
 use Rattle.refusal.specs.Answer.{pick, Answer, given, absent, refused}
-use Rattle.diag_values.specs.Values.{byteAt, numberAt, modeOf}
+use Rattle.diag_rules.specs.Mask.{byteAt}
+use Rattle.diag_values.specs.Values.{numberAt, modeOf}
 use Rattle.diag_rows.specs.declared.ChildTableEntry.{ChildTableEntry}
 use Rattle.diag_rows.specs.declared.ChildIpv6AddrInfo.{ChildIpv6AddrInfo}
 

@@ -13,7 +13,7 @@ use Rattle.refusal.specs.Number.{refusalAnswer}
 use Rattle.refusal.specs.declared.Refusal.{Refusal}
 use Rattle.refusal.specs.declared.Fault.the-variants.{NoRoom}
 use Rattle.laws.proofs.Tests.{by-test}
-use Rattle.network_data.specs.Walk.{walk, walkIn}
+use Rattle.network_framing.specs.Walk.{walk, walkIn}
 use Rattle.network_data.specs.Rules.{ended, values, checkFrom, checkValue}
 use Rattle.network_data.specs.Decode.{Prefix, prefixes, contents, allRoutes, allBorders, countsOf, decodeNetworkData}
 use Rattle.network_data.specs.Answers.{checkedAnswer}

@@ -10,15 +10,15 @@ use crate::rows::put_list;
 use crate::rows::put_route;
 use crate::rows::put_rows;
 use diag_rows::ReadAddressList;
-use diag_rows::ReadRoute64;
-use diag_rows::Route64;
-use diag_values::Judged;
+use diag_rules::Judged;
 use diag_values::ModeData;
 use diag_values::Read8;
 use diag_values::ReadConnectivity;
 use diag_values::ReadLeaderData;
 use diag_values::ReadMacCounters;
 use diag_values::ReadMode;
+use route64::ReadRoute64;
+use route64::Route64;
 use texts::Room;
 use texts::put_absent;
 use texts::put_byte;
@@ -166,7 +166,7 @@ fn put_bare_route64(text: &mut Room, at: usize, ty: u8, r: ReadRoute64) -> usize
 }
 
 fn put_children(text: &mut Room, at: usize, ty: u8, value: &[u8]) -> usize {
-    match diag_values::check_value(ty, value, 0) {
+    match diag_rules::check_value(ty, value, 0) {
         Judged::Kept => {
             let head = put_head(text, at, ty);
             put_rows(text, head, Rows::Children, value, value.len() / 3)
@@ -191,7 +191,7 @@ fn put_each_address(text: &mut Room, at: usize, value: &[u8]) -> usize {
 }
 
 fn put_addresses(text: &mut Room, at: usize, ty: u8, value: &[u8]) -> usize {
-    match diag_values::check_value(ty, value, 0) {
+    match diag_rules::check_value(ty, value, 0) {
         Judged::Kept => {
             let head = put_head(text, at, ty);
             put_each_address(text, head, value)
@@ -201,7 +201,7 @@ fn put_addresses(text: &mut Room, at: usize, ty: u8, value: &[u8]) -> usize {
 }
 
 fn put_bytes(text: &mut Room, at: usize, ty: u8, value: &[u8]) -> usize {
-    match diag_values::check_value(ty, value, 0) {
+    match diag_rules::check_value(ty, value, 0) {
         Judged::Kept => {
             let head = put_head(text, at, ty);
             put_hex(text, head, value)
@@ -228,7 +228,7 @@ pub(crate) fn put_bare(text: &mut Room, at: usize, ty: u8, value: &[u8]) -> usiz
     match ty {
         0 | 17 | 18 | 23 => put_bytes(text, at, ty, value),
         4 => put_bare_connectivity(text, at, ty, diag_values::decode_connectivity(value, 0)),
-        5 => put_bare_route64(text, at, ty, diag_rows::decode_route64(value, 0)),
+        5 => put_bare_route64(text, at, ty, route64::decode_route64(value, 0)),
         8 => put_addresses(text, at, ty, value),
         16 => put_children(text, at, ty, value),
         30 => put_bare_list(text, at, ty, value),

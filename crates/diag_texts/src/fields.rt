@@ -1,11 +1,11 @@
 // The text of each kind of field.
-use diag_rows::Route64;
 use diag_values::Connectivity;
 use diag_values::LeaderData;
 use diag_values::MacCounters;
 use diag_values::ModeData;
 use diag_values::OptU8;
 use diag_values::OptU16;
+use route64::Route64;
 use texts::Room;
 use texts::put_byte;
 use texts::put_hex;

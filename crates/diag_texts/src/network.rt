@@ -34,7 +34,7 @@ fn decode(value: &[u8], lent: Counts) -> Decoded {
 
 // The prefixes, the HasRoute rows and the BorderRouter rows.
 fn put_tables(text: &mut Room, at: usize, tables: Tables, counts: Counts) -> usize {
-    let name = put_name(text, at, diag_values::NETWORK_DATA);
+    let name = put_name(text, at, diag_rules::NETWORK_DATA);
     let prefixes = put_table(text, name, Table::Prefixes, tables, counts.prefixes);
     let first = put_byte(text, prefixes, b'|');
     let routes = put_table(text, first, Table::HasRoutes, tables, counts.has_routes);

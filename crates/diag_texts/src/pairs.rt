@@ -1,6 +1,6 @@
 // The pairing of a payload: how many rows, then what is said of each.
+use pair_codes::Pairing;
 use pairing::Answered;
-use pairing::Pairing;
 use requests::least;
 use texts::Room;
 use texts::put_number;

@@ -75,7 +75,7 @@ fn put_u32(text: &mut Room, at: usize, ty: u8, field: OptU32) -> usize {
 fn put_mode_field(text: &mut Room, at: usize, field: OptMode) -> usize {
     match field {
         OptMode::Some(m) => {
-            let name = put_name(text, at, diag_values::MODE);
+            let name = put_name(text, at, diag_rules::MODE);
             put_mode(text, name, m)
         }
         OptMode::None => at,
@@ -85,7 +85,7 @@ fn put_mode_field(text: &mut Room, at: usize, field: OptMode) -> usize {
 fn put_connectivity_field(text: &mut Room, at: usize, field: OptConnectivity) -> usize {
     match field {
         OptConnectivity::Some(c) => {
-            let name = put_name(text, at, diag_values::CONNECTIVITY);
+            let name = put_name(text, at, diag_rules::CONNECTIVITY);
             put_connectivity(text, name, c)
         }
         OptConnectivity::None => at,
@@ -95,7 +95,7 @@ fn put_connectivity_field(text: &mut Room, at: usize, field: OptConnectivity) ->
 fn put_leader_field(text: &mut Room, at: usize, field: OptLeaderData) -> usize {
     match field {
         OptLeaderData::Some(d) => {
-            let name = put_name(text, at, diag_values::LEADER_DATA);
+            let name = put_name(text, at, diag_rules::LEADER_DATA);
             put_leader_data(text, name, d)
         }
         OptLeaderData::None => at,
@@ -105,7 +105,7 @@ fn put_leader_field(text: &mut Room, at: usize, field: OptLeaderData) -> usize {
 fn put_counters_field(text: &mut Room, at: usize, field: OptMacCounters) -> usize {
     match field {
         OptMacCounters::Some(c) => {
-            let name = put_name(text, at, diag_values::MAC_COUNTERS);
+            let name = put_name(text, at, diag_rules::MAC_COUNTERS);
             put_mac_counters(text, name, c)
         }
         OptMacCounters::None => at,
@@ -113,9 +113,9 @@ fn put_counters_field(text: &mut Room, at: usize, field: OptMacCounters) -> usiz
 }
 
 fn put_routes(text: &mut Room, at: usize, value: &[u8]) -> usize {
-    let read = diag_rows::decode_route64(value, 0);
+    let read = route64::decode_route64(value, 0);
     let route = read.route;
-    let name = put_name(text, at, diag_values::ROUTE64);
+    let name = put_name(text, at, diag_rules::ROUTE64);
     let head = put_route64_head(text, name, route);
     put_rows(text, head, Rows::Routes, value, route.count)
 }
@@ -129,7 +129,7 @@ fn put_routes_field(text: &mut Room, at: usize, payload: &[u8], field: OptPart) 
 
 // The records as the calls by number hand them out; those of the tables are what `nd` shows.
 fn put_network(text: &mut Room, at: usize, value: &[u8], counts: Counts) -> usize {
-    let name = put_name(text, at, diag_values::NETWORK_DATA);
+    let name = put_name(text, at, diag_rules::NETWORK_DATA);
     let prefixes = put_rows(text, name, Rows::Prefixes, value, counts.prefixes);
     let first = put_byte(text, prefixes, b'|');
     let routes = put_rows(text, first, Rows::HasRoutes, value, counts.has_routes);
@@ -156,7 +156,7 @@ fn put_network_field(text: &mut Room, at: usize, payload: &[u8], field: OptNetwo
 fn put_children_field(text: &mut Room, at: usize, payload: &[u8], field: OptPart) -> usize {
     match field {
         OptPart::Some { start, len } => {
-            let name = put_name(text, at, diag_values::CHILD_TABLE);
+            let name = put_name(text, at, diag_rules::CHILD_TABLE);
             put_rows(
                 text,
                 name,
@@ -173,7 +173,7 @@ fn put_lists_field(text: &mut Room, at: usize, payload: &[u8], n: usize) -> usiz
     if n == 0 {
         return at;
     }
-    let name = put_name(text, at, diag_values::CHILD_IPV6_ADDRESSES);
+    let name = put_name(text, at, diag_rules::CHILD_IPV6_ADDRESSES);
     put_rows(text, name, Rows::Lists, payload, n)
 }
 
@@ -184,16 +184,10 @@ fn put_first(text: &mut Room, at: usize, payload: &[u8], d: NetDiagData) -> usiz
     let mode = d.mode;
     let timeout = d.timeout;
     let connectivity = d.connectivity;
-    let a = put_bytes(
-        text,
-        at,
-        diag_values::EXT_MAC_ADDRESS,
-        payload,
-        ext_mac_addr,
-    );
-    let b = put_u16(text, a, diag_values::MAC_ADDRESS, mac_addr);
+    let a = put_bytes(text, at, diag_rules::EXT_MAC_ADDRESS, payload, ext_mac_addr);
+    let b = put_u16(text, a, diag_rules::MAC_ADDRESS, mac_addr);
     let c = put_mode_field(text, b, mode);
-    let d = put_u32(text, c, diag_values::TIMEOUT, timeout);
+    let d = put_u32(text, c, diag_rules::TIMEOUT, timeout);
     put_connectivity_field(text, d, connectivity)
 }
 
@@ -207,7 +201,7 @@ fn put_second(text: &mut Room, at: usize, payload: &[u8], d: NetDiagData) -> usi
     let a = put_routes_field(text, at, payload, route64);
     let b = put_leader_field(text, a, leader_data);
     let c = put_network_field(text, b, payload, network_data);
-    let d = put_bytes(text, c, diag_values::IPV6_ADDRESSES, payload, addresses);
+    let d = put_bytes(text, c, diag_rules::IPV6_ADDRESSES, payload, addresses);
     put_counters_field(text, d, mac_counters)
 }
 
@@ -219,12 +213,12 @@ fn put_third(text: &mut Room, at: usize, payload: &[u8], d: NetDiagData) -> usiz
     let channel_pages = d.channel_pages;
     let type_list = d.type_list;
     let eui64 = d.eui64;
-    let a = put_u8(text, at, diag_values::BATTERY_LEVEL, battery_level);
-    let b = put_u16(text, a, diag_values::SUPPLY_VOLTAGE, supply_voltage);
+    let a = put_u8(text, at, diag_rules::BATTERY_LEVEL, battery_level);
+    let b = put_u16(text, a, diag_rules::SUPPLY_VOLTAGE, supply_voltage);
     let c = put_children_field(text, b, payload, child_table);
-    let e = put_bytes(text, c, diag_values::CHANNEL_PAGES, payload, channel_pages);
-    let f = put_bytes(text, e, diag_values::TYPE_LIST, payload, type_list);
-    let g = put_bytes(text, f, diag_values::EUI64, payload, eui64);
+    let e = put_bytes(text, c, diag_rules::CHANNEL_PAGES, payload, channel_pages);
+    let f = put_bytes(text, e, diag_rules::TYPE_LIST, payload, type_list);
+    let g = put_bytes(text, f, diag_rules::EUI64, payload, eui64);
     put_lists_field(text, g, payload, d.child_ipv6_addresses)
 }
 

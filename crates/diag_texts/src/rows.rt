@@ -5,8 +5,6 @@ use diag_rows::ChildIpv6AddrInfo;
 use diag_rows::ChildTableEntry;
 use diag_rows::ReadAddressList;
 use diag_rows::ReadChild;
-use diag_rows::ReadRoute;
-use diag_rows::RouteDataEntry;
 use diag_values::ModeData;
 use network_data::BorderRouterEntry;
 use network_data::HasRouteEntry;
@@ -16,6 +14,8 @@ use network_tables::Presence;
 use network_tables::ReadBorderRouter;
 use network_tables::ReadHasRoute;
 use network_tables::ReadPrefix;
+use route64::ReadRoute;
+use route64::RouteDataEntry;
 use texts::Room;
 use texts::part_of;
 use texts::put_byte;
@@ -174,9 +174,9 @@ fn put_read_border_router(text: &mut Room, at: usize, r: ReadBorderRouter) -> us
 
 fn put_row(text: &mut Room, at: usize, rows: Rows, s: &[u8], k: usize) -> usize {
     match rows {
-        Rows::Routes => put_read_route(text, at, diag_rows::route64_row(s, k)),
+        Rows::Routes => put_read_route(text, at, route64::route64_row(s, k)),
         Rows::Children => put_read_child(text, at, diag_rows::child_row(s, k)),
-        Rows::Lists => put_read_list(text, at, s, diag_entries::child_list(s, k)),
+        Rows::Lists => put_read_list(text, at, s, child_lists::child_list(s, k)),
         Rows::Prefixes => put_read_prefix(text, at, network_tables::prefix_at(s, k)),
         Rows::HasRoutes => put_read_has_route(text, at, network_tables::has_route_at(s, k)),
         Rows::BorderRouters => put_read_border_router(

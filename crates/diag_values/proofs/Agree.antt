@@ -12,7 +12,7 @@ use Rattle.refusal.specs.Sizes.{mostBytes}
 use Rattle.refusal.specs.Answer.{onGiven}
 use Rattle.laws.proofs.Tests.{by-test}
 use Rattle.wire.specs.Be.{be, wrongLength, ruled, fixed}
-use Rattle.diag_values.specs.Rule.{keepsRule, valueOf}
+use Rattle.diag_rules.specs.Rule.{keepsRule, valueOf}
 
 -- THE FACT over the length k
 pub one-length : (ty k place : ℕ) (v : List ℕ) → keepsRule ty v ≡ eqb (length v) k → k ≤ mostBytes → valueOf ty place v ≡ ruled k place v

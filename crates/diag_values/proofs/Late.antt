@@ -5,7 +5,8 @@ use mathlib.Core.List.{List}
 use Prim.Native.Nat.{ℕ}
 use lib.IntN.{ℤ}
 use Rattle.refusal.specs.Answer.{Answer}
-use Rattle.diag_values.specs.Values.{byteAt, priorityOf, bufferOf, datagramsOf, connectivityOf}
+use Rattle.diag_rules.specs.Mask.{byteAt}
+use Rattle.diag_values.specs.Values.{priorityOf, bufferOf, datagramsOf, connectivityOf}
 
 pub connectivity-is : (v : List ℕ) (z : ℤ) (b d : Answer ℕ) → z ≡ priorityOf (byteAt v 0) → b ≡ bufferOf v → d ≡ datagramsOf v
     → record {

@@ -1,24 +1,15 @@
--- The bytes of a part of a value, one by one, and the numbers that they spell.
+-- The numbers that the bytes of a part of a value spell.
 -- Assumes nothing.
-use mathlib.Core.Path.{_≡_, refl, ap}
-use mathlib.Core.List.{List, [], _∷_}
-use Prim.Native.Nat.{ℕ, zero, suc, _+_, _*_, _≤_}
+use mathlib.Core.Path.{_≡_}
+use mathlib.Core.List.{List}
+use Prim.Native.Nat.{ℕ, suc, _+_, _*_, _≤_}
 use native.Mathlib.Omega.{arith}
 use native.Mathlib.Numerals.{add-one}
-use lib.ListN.{length, take, drop, getD}
-use lib.Seq.{drop-cons}
+use lib.ListN.{length}
+use Rattle.laws.proofs.Parts.{part-elements}
 use Rattle.wire.specs.Be.{be, beFrom}
-use Rattle.diag_values.specs.Values.{byteAt, numberAt}
-
--- n elements of v from the index i on
-abbrev pub elements : (n i : ℕ) → List ℕ → List ℕ
-elements zero i v = []
-elements (suc n) i v = getD v i 0 ∷ elements n (suc i) v
-
-pub part-elements : (n i : ℕ) (v : List ℕ) → i + n ≤ length v → take n (drop i v) ≡ elements n i v
-part-elements zero i v h = refl
-part-elements (suc n) i v h =
-    rw (drop-cons v i 0 (omega arith)) (ap (_∷_ (getD v i 0)) (part-elements n (suc i) v (omega arith)))
+use Rattle.diag_rules.specs.Mask.{byteAt}
+use Rattle.diag_values.specs.Values.{numberAt}
 
 pub two-spell : (v : List ℕ) (at : ℕ) → at + 2 ≤ length v → byteAt v at * 256 + byteAt v (at + 1) ≡ numberAt 2 at v
 unfolding be beFrom

@@ -5,9 +5,7 @@ use Prim.Native.Nat.{ℕ}
 use Rattle.refusal.specs.Answer.{Answer, given, absent, refused}
 use Rattle.refusal.proofs.Papers.{Tells, tells, refusal-back, codeOf}
 use Rattle.diag_values.specs.Values.{ConnectivityValue}
-use Rattle.diag_values.specs.Answers.{judgedAnswer, optAnswer8, optAnswer16, answer8, modeAnswer, connectivityPaper, connectivityAnswer, leaderAnswer, countersAnswer}
-use Rattle.diag_values.specs.declared.Judged.{Judged}
-use Rattle.diag_values.specs.declared.Judged.the-variants as j
+use Rattle.diag_values.specs.Answers.{optAnswer8, optAnswer16, answer8, modeAnswer, connectivityPaper, connectivityAnswer, leaderAnswer, countersAnswer}
 use Rattle.diag_values.specs.declared.OptU8.{OptU8}
 use Rattle.diag_values.specs.declared.OptU8.the-variants as o8
 use Rattle.diag_values.specs.declared.OptU16.{OptU16}
@@ -18,16 +16,6 @@ use Rattle.diag_values.specs.declared.Connectivity.{Connectivity}
 use Rattle.diag_values.specs.declared.ReadConnectivity.the-variants as y
 use Rattle.diag_values.specs.declared.ReadLeaderData.the-variants as l
 use Rattle.diag_values.specs.declared.ReadMacCounters.the-variants as k
-
-abbrev pub judgedOf : Answer (Unit {0}) → Judged
-judgedOf x = codeOf (λ (u : Unit {0}). j.Kept) j.Kept j.Refused x
-
-pub judged-back : (x : Judged) → judgedOf (judgedAnswer x) ≡ x
-judged-back j.Kept = refl
-judged-back (j.Refused x) = ap j.Refused (refusal-back x)
-
-pub judged-tells : Tells judgedAnswer
-judged-tells = tells judgedAnswer judgedOf judged-back
 
 pub read8-tells : Tells answer8
 read8-tells = tells answer8 (codeOf v8.Value v8.Absent v8.Refused) (elim [ v8.Value x ↦ refl | v8.Absent ↦ refl | v8.Refused x ↦ ap v8.Refused (refusal-back x) ])

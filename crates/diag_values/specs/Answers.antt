@@ -1,12 +1,9 @@
 -- The code's answers, on paper.
 -- Assumes nothing.
 use Prim.Native.Nat.{ℕ}
-use mathlib.Core.List.{List}
-use Rattle.refusal.specs.Answer.{Answer, given, absent, onGiven}
+use Rattle.refusal.specs.Answer.{Answer, given, absent}
 use Rattle.refusal.specs.Number.{refusalAnswer}
 use Rattle.diag_values.specs.Values.{ConnectivityValue}
-use Rattle.diag_values.specs.declared.Judged.{Judged}
-use Rattle.diag_values.specs.declared.Judged.the-variants as j
 use Rattle.diag_values.specs.declared.OptU8.{OptU8}
 use Rattle.diag_values.specs.declared.OptU8.the-variants as o8
 use Rattle.diag_values.specs.declared.OptU16.{OptU16}
@@ -25,14 +22,6 @@ use Rattle.diag_values.specs.declared.ReadLeaderData.the-variants as l
 use Rattle.diag_values.specs.declared.MacCounters.{MacCounters}
 use Rattle.diag_values.specs.declared.ReadMacCounters.{ReadMacCounters}
 use Rattle.diag_values.specs.declared.ReadMacCounters.the-variants as k
-
--- a value that may be read, with nothing said of what it is
-abbrev pub judgedAnswer : Judged → Answer (Unit {0})
-judgedAnswer j.Kept = given tt
-judgedAnswer (j.Refused x) = refusalAnswer x
-
-abbrev pub judged : Answer (List ℕ) → Answer (Unit {0})
-judged a = onGiven (λ (v : List ℕ). tt) a
 
 -- a field that may be missing
 abbrev pub optAnswer8 : OptU8 → Answer ℕ

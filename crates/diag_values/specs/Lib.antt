@@ -1,4 +1,2 @@
 pub mod Values
-pub mod Mask
-pub mod Rule
 pub mod Answers

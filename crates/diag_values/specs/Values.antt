@@ -1,20 +1,17 @@
 -- What the bytes of a diagnostic value say, for the layouts that are a number or a record (document 01, "Diagnostic values"). They are total: whether
--- a value has the length of its layout is asked first, by specs/Rule.
+-- a value has the length of its layout is asked first, by the Rule of `diag_rules`.
 -- Assumes nothing.
 use Prim.Native.Nat.{ℕ, _/_, _%_}
 use mathlib.Core.List.{List}
-use lib.ListN.{length, take, drop, getD}
+use lib.ListN.{length, take, drop}
 use lib.IntN.{ℤ, pos, negsuc}
 use lib.Dec.{eqb, leb}
 use Rattle.refusal.specs.Answer.{pick, Answer, given, absent}
 use Rattle.wire.specs.Be.{be}
+use Rattle.diag_rules.specs.Mask.{byteAt}
 use Rattle.diag_values.specs.declared.ModeData.{ModeData}
 use Rattle.diag_values.specs.declared.LeaderData.{LeaderData}
 use Rattle.diag_values.specs.declared.MacCounters.{MacCounters}
-
--- byte k of a value, from 0 on
-abbrev pub byteAt : List ℕ → ℕ → ℕ
-byteAt v k = getD v k 0
 
 -- the number that n bytes from the place at on spell
 abbrev pub numberAt : (n at : ℕ) → List ℕ → ℕ

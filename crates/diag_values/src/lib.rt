@@ -1,51 +1,16 @@
-// The values of a network-diagnostic payload (decode.rs, model.rs): the rule of each type, and the values of one number or one record, each read from
-// its own bytes. Those with rows are in `diag_rows`; Network Data, type 7, is in neither.
-use refusal::Fault;
+// The values of a network-diagnostic payload (decode.rs, model.rs) that are one number or one record, each read from its own bytes. Those with rows
+// are in `diag_rows`; Network Data, type 7, is in neither.
+use diag_rules::Judged;
 use refusal::Refusal;
 ghost use mathlib.Core.Path.{_≡_};
 ghost use mathlib.Core.List.{List};
 ghost use Prim.Native.Nat.{ℕ, _+_, _≤_};
 ghost use lib.ListN.{length};
 ghost use Rattle.refusal.specs.Answer.{onGiven};
-ghost use Rattle.diag_values.specs.Values.{byteAt, numberAt, modeOf, modeValue, leaderOf, countersOf, priorityOf, bufferOf, datagramsOf, connectivityOf};
-ghost use Rattle.diag_values.specs.Mask.{bitOf, routersOf, routesFit};
-ghost use Rattle.diag_values.specs.Rule.{keepsRule, valueOf};
-ghost use Rattle.diag_values.specs.Answers.{judgedAnswer, judged, optAnswer8, optAnswer16, answer8, modeAnswer, connectivityPaper, connectivityAnswer, leaderAnswer, countersAnswer};
-
-// The types of the values, as decode.rs names them.
-pub const EXT_MAC_ADDRESS: u8 = 0;
-
-pub const MAC_ADDRESS: u8 = 1;
-
-pub const MODE: u8 = 2;
-
-pub const TIMEOUT: u8 = 3;
-
-pub const CONNECTIVITY: u8 = 4;
-
-pub const ROUTE64: u8 = 5;
-
-pub const LEADER_DATA: u8 = 6;
-
-pub const NETWORK_DATA: u8 = 7;
-
-pub const IPV6_ADDRESSES: u8 = 8;
-
-pub const MAC_COUNTERS: u8 = 9;
-
-pub const BATTERY_LEVEL: u8 = 14;
-
-pub const SUPPLY_VOLTAGE: u8 = 15;
-
-pub const CHILD_TABLE: u8 = 16;
-
-pub const CHANNEL_PAGES: u8 = 17;
-
-pub const TYPE_LIST: u8 = 18;
-
-pub const EUI64: u8 = 23;
-
-pub const CHILD_IPV6_ADDRESSES: u8 = 30;
+ghost use Rattle.diag_rules.specs.Mask.{byteAt};
+ghost use Rattle.diag_rules.specs.Rule.{valueOf};
+ghost use Rattle.diag_values.specs.Values.{numberAt, modeOf, modeValue, leaderOf, countersOf, priorityOf, bufferOf, datagramsOf, connectivityOf};
+ghost use Rattle.diag_values.specs.Answers.{optAnswer8, optAnswer16, answer8, modeAnswer, connectivityPaper, connectivityAnswer, leaderAnswer, countersAnswer};
 
 // A field that may be missing.
 pub enum OptU8 {
@@ -98,12 +63,6 @@ pub struct MacCounters {
     pub if_out_discards: u32,
 }
 
-// Whether a value keeps the sizes and the rule of its type.
-pub enum Judged {
-    Kept,
-    Refused(Refusal),
-}
-
 // A value that was read. `Absent` is for queries that find no value to read.
 pub enum Read8 {
     Value(u8),
@@ -151,91 +110,11 @@ fn u32_at(v: &[u8], at: usize) -> u32
     (u16_at(v, at) as u32) * 65536 + u16_at(v, at + 2) as u32
 }
 
-// Whether a byte of a Route64's mask assigns router k, which is one of its eight.
-pub fn assigns(byte: u8, k: usize) -> bool
-    ensures { λ r. ⌜ r ≡ bitOf byte k ⌝ }
-{
-    let shift = (7 - k % 8) as u8;
-    (byte >> shift) % 2 == 1
-}
-
-// How many routers it assigns.
-fn count_routers(v: &[u8]) -> usize
-    requires { ⌜ 9 ≤ length (now v) ⌝ }
-    ensures { λ r. ⌜ (r ≡ length (routersOf (now (v .entry)))) × (r ≤ 64) ⌝ }
-{
-    let mut n: usize = 0;
-    let mut k: usize = 0;
-    while k < 64 {
-        let next = k + 1;
-        if assigns(v[1 + k / 8], k) {
-            n += 1;
-        }
-        k = next;
-    }
-    n
-}
-
-// Whether a value is as long as its mask asks: the rule of type 5.
-fn routes_fit(v: &[u8]) -> bool
-    ensures { λ r. ⌜ r ≡ routesFit (now (v .entry)) ⌝ }
-{
-    if v.len() < 9 {
-        return false;
-    }
-    v.len() == 9 + count_routers(v)
-}
-
-// Whether the length of a value keeps the rule of its type: document 01's table.
-fn keeps_rule(ty: u8, v: &[u8]) -> bool
-    ensures { λ r. ⌜ r ≡ keepsRule ty (now (v .entry)) ⌝ }
-{
-    let n = v.len();
-    match ty {
-        1 => n == 2,
-        2 => n == 1,
-        3 => n == 4,
-        4 => n >= 7,
-        5 => routes_fit(v),
-        6 => n == 8,
-        8 => n % 16 == 0,
-        9 => n == 36,
-        14 => n == 1,
-        15 => n == 2,
-        16 => n % 3 == 0,
-        23 => n == 8,
-        30 => { if n < 2 { false } else { (n - 2) % 16 == 0 } }
-        _ => true,
-    }
-}
-
-// Whether a value of a type may be read. Refusals: 1, then 4 at the place of its entry, which is 0 for a bare value. A type that is not known
-// takes any bytes, and so does 7, whose own rules are not these.
-pub fn check_value(ty: u8, value: &[u8], place: usize) -> Judged
-    ensures { λ r. ⌜ judgedAnswer r ≡ judged (valueOf ty place (now (value .entry))) ⌝ }
-{
-    if value.len() > refusal::MAX_BYTES {
-        return Judged::Refused(Refusal {
-            fault: Fault::TooLarge,
-            place: 0,
-            input: 0,
-        });
-    }
-    if keeps_rule(ty, value) {
-        return Judged::Kept;
-    }
-    Judged::Refused(Refusal {
-        fault: Fault::BadLength,
-        place: place,
-        input: 0,
-    })
-}
-
-// Type 14: its one byte. Types 1 and 15 are `wire::read_u16`, type 3 `wire::read_u32`. Refusals, here and below: those of `check_value`.
+// Type 14: its one byte. Types 1 and 15 are `wire::read_u16`, type 3 `wire::read_u32`. Refusals, here and below: those of `diag_rules::check_value`.
 pub fn read_u8(value: &[u8], place: usize) -> Read8
     ensures { λ r. ⌜ answer8 r ≡ onGiven (λ (v : List ℕ). byteAt v 0) (valueOf 14 place (now (value .entry))) ⌝ }
 {
-    match check_value(BATTERY_LEVEL, value, place) {
+    match diag_rules::check_value(diag_rules::BATTERY_LEVEL, value, place) {
         Judged::Kept => Read8::Value(value[0]),
         Judged::Refused(r) => Read8::Refused(r),
     }
@@ -257,7 +136,7 @@ impl ModeData {
     pub fn decode(value: &[u8], place: usize) -> ReadMode
         ensures { λ r. ⌜ modeAnswer r ≡ onGiven modeValue (valueOf 2 place (now (value .entry))) ⌝ }
     {
-        match check_value(MODE, value, place) {
+        match diag_rules::check_value(diag_rules::MODE, value, place) {
             Judged::Kept => ReadMode::Value(mode_of(value[0])),
             Judged::Refused(r) => ReadMode::Refused(r),
         }
@@ -281,7 +160,7 @@ fn leader_data_of(v: &[u8]) -> LeaderData
 pub fn decode_leader_data(value: &[u8], place: usize) -> ReadLeaderData
     ensures { λ r. ⌜ leaderAnswer r ≡ onGiven leaderOf (valueOf 6 place (now (value .entry))) ⌝ }
 {
-    match check_value(LEADER_DATA, value, place) {
+    match diag_rules::check_value(diag_rules::LEADER_DATA, value, place) {
         Judged::Kept => ReadLeaderData::Value(leader_data_of(value)),
         Judged::Refused(r) => ReadLeaderData::Refused(r),
     }
@@ -308,7 +187,7 @@ fn mac_counters_of(v: &[u8]) -> MacCounters
 pub fn decode_mac_counters(value: &[u8], place: usize) -> ReadMacCounters
     ensures { λ r. ⌜ countersAnswer r ≡ onGiven countersOf (valueOf 9 place (now (value .entry))) ⌝ }
 {
-    match check_value(MAC_COUNTERS, value, place) {
+    match diag_rules::check_value(diag_rules::MAC_COUNTERS, value, place) {
         Judged::Kept => ReadMacCounters::Value(mac_counters_of(value)),
         Judged::Refused(r) => ReadMacCounters::Refused(r),
     }
@@ -368,7 +247,7 @@ fn connectivity_of(v: &[u8]) -> Connectivity
 pub fn decode_connectivity(value: &[u8], place: usize) -> ReadConnectivity
     ensures { λ r. ⌜ connectivityAnswer r ≡ onGiven connectivityOf (valueOf 4 place (now (value .entry))) ⌝ }
 {
-    match check_value(CONNECTIVITY, value, place) {
+    match diag_rules::check_value(diag_rules::CONNECTIVITY, value, place) {
         Judged::Kept => ReadConnectivity::Value(connectivity_of(value)),
         Judged::Refused(r) => ReadConnectivity::Refused(r),
     }

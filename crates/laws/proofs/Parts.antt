@@ -1,15 +1,25 @@
--- A part of a list, and what holds of each element of parts and of lists put together.
+-- A part of a list, its elements one by one, and what holds of each element of parts and of lists put together.
 -- Assumes nothing.
-use mathlib.Core.Path.{_≡_}
+use mathlib.Core.Path.{_≡_, refl, ap}
 use mathlib.Core.List.{List, [], _∷_, _++_}
 use Prim.Native.Nat.{ℕ, zero, suc, _+_, _≤_}
 use native.Mathlib.Omega.{arith}
-use lib.ListN.{length, take, drop, length-drop}
-use lib.Seq.{length-take-le}
+use lib.ListN.{length, take, drop, getD, length-drop}
+use lib.Seq.{length-take-le, drop-cons}
 use Rattle.refusal.specs.Every.{Every}
 
 pub length-part : (s : List ℕ) (a n : ℕ) → a + n ≤ length s → length (take n (drop a s)) ≡ n
 length-part s a n h = length-take-le n (drop a s) (rw length-drop (omega arith))
+
+-- n elements of v from the index i on
+abbrev pub elements : (n i : ℕ) → List ℕ → List ℕ
+elements zero i v = []
+elements (suc n) i v = getD v i 0 ∷ elements n (suc i) v
+
+pub part-elements : (n i : ℕ) (v : List ℕ) → i + n ≤ length v → take n (drop i v) ≡ elements n i v
+part-elements zero i v h = refl
+part-elements (suc n) i v h =
+    rw (drop-cons v i 0 (omega arith)) (ap (_∷_ (getD v i 0)) (part-elements n (suc i) v (omega arith)))
 
 module _ {A : Type 0} (P : A → Type 0) where
   pub every-append : (a b : List A) → Every P a → Every P b → Every P (a ++ b)

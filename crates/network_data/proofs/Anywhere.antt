@@ -9,11 +9,12 @@ use lib.Dec.{eqb, leb, ltb}
 use Rattle.refusal.specs.Sizes.{mostBytes, mostPrefixes, mostHasRoutes, mostBorderRouters}
 use Rattle.refusal.specs.Answer.{pick, Answer, given, absent, refused, thenDo, onGiven}
 use Rattle.laws.proofs.Tests.{by-test}
-use Rattle.network_data.specs.Walk.{Stop, clean, short, Piece, walkIn}
-use Rattle.network_data.specs.Rules.{counts, headAt, join, rule, ended, rules, checkIn, checkHead, checkPrefix, values, checkFrom, checkValue}
+use Rattle.network_framing.specs.Walk.{Stop, clean, short, Piece, walkIn}
+use Rattle.network_data.specs.Rules.{counts, join, rule, ended, rules, checkIn, checkHead, checkPrefix, values, checkFrom, checkValue}
+use Rattle.network_framing.specs.Frame.{headAt}
 use Rattle.network_data.specs.Decode.{Prefix, contents, decodeNetworkData}
-use Rattle.network_data.specs.declared.Head.{Head}
-use Rattle.network_data.specs.declared.Head.the-variants.{Inner, Short}
+use Rattle.network_framing.specs.declared.Head.{Head}
+use Rattle.network_framing.specs.declared.Head.the-variants.{Inner, Short}
 use Rattle.network_data.specs.declared.Counts.{Counts}
 
 -- the same, refused at p

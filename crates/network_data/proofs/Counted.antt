@@ -10,11 +10,12 @@ use lib.ListN.{length, length-append, length-map}
 use lib.Dec.{eqb, leb, ltb}
 use borrow.Author.Tests.{eqb-true, ne-eqb, lt-ltb, le-ltb}
 use Rattle.refusal.specs.Answer.{pick, Answer, given, absent, refused, thenDo, onGiven}
-use Rattle.network_data.specs.Walk.{Stop, clean, short, Piece, walkIn}
-use Rattle.network_data.specs.Rules.{counts, headAt, join, rule, ended, rules, checkIn, checkHead, checkPrefix, values, checkFrom, checkValue}
+use Rattle.network_framing.specs.Walk.{Stop, clean, short, Piece, walkIn}
+use Rattle.network_data.specs.Rules.{counts, join, rule, ended, rules, checkIn, checkHead, checkPrefix, values, checkFrom, checkValue}
+use Rattle.network_framing.specs.Frame.{headAt}
 use Rattle.network_data.specs.Decode.{rowPlaces, placesIn, Prefix, headItems, inner, prefixAt, prefixes, contents, decodeNetworkData, allRoutes, allBorders, countsOf}
-use Rattle.network_data.specs.declared.Head.{Head}
-use Rattle.network_data.specs.declared.Head.the-variants.{Inner, Short}
+use Rattle.network_framing.specs.declared.Head.{Head}
+use Rattle.network_framing.specs.declared.Head.the-variants.{Inner, Short}
 use Rattle.network_data.specs.declared.Counts.{Counts}
 use Rattle.laws.proofs.Tests.{pick-all, by-test}
 use Rattle.refusal.specs.Sizes.{mostBytes, mostPrefixes, mostHasRoutes, mostBorderRouters}

@@ -1,4 +1,3 @@
-pub mod Walks
 pub mod Passes
 pub mod Counted
 pub mod Anywhere

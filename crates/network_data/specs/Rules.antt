@@ -1,29 +1,20 @@
 -- The refusals of a Network Data value: 4, 5 and 12, "in wire order, first met" (document 01), at the place p of its entry. A Counts is what is
 -- passed so far of the whole value.
 -- Assumes nothing.
-use Prim.Native.Nat.{ℕ, _+_, _-_, _/_, _%_}
+use Prim.Native.Nat.{ℕ, _+_, _/_, _%_}
 use mathlib.Core.List.{List, [], _∷_}
-use lib.ListN.{length, getD}
+use lib.ListN.{length}
 use lib.Dec.{ltb, leb, eqb}
 use Rattle.refusal.specs.Sizes.{mostPrefixes, mostHasRoutes, mostBorderRouters}
 use Rattle.refusal.specs.Answer.{pick, Answer, given, refused, thenDo}
-use Rattle.network_data.specs.Walk.{Piece, Stop, clean, short, Walk, walkIn}
-use Rattle.network_data.specs.declared.Head.{Head}
-use Rattle.network_data.specs.declared.Head.the-variants.{Inner, Short}
+use Rattle.network_framing.specs.Frame.{headAt}
+use Rattle.network_framing.specs.Walk.{Piece, Stop, clean, short, Walk, walkIn}
+use Rattle.network_framing.specs.declared.Head.{Head}
+use Rattle.network_framing.specs.declared.Head.the-variants.{Inner, Short}
 use Rattle.network_data.specs.declared.Counts.{Counts}
 
 abbrev pub counts : (prefixes hasRoutes borderRouters : ℕ) → Counts
 counts n h b = record { prefixes = n; «has_routes» = h; «border_routers» = b }
-
--- "bit length over 8 rounded up in bytes"
-abbrev pub bytesFor : ℕ → ℕ
-bytesFor bits = (bits + 7) / 8
-
--- a prefix's value from start to end: "domain, bit length, bit length over 8 rounded up in bytes, then inner TLVs", from the place that is given on
-unfoldable pub headAt : List ℕ → (start end : ℕ) → Head
-headAt s start end =
-    pick (ltb (end - start) 2) Short
-    (pick (ltb (end - start) (2 + bytesFor (getD s (start + 1) 0))) Short (Inner (start + (2 + bytesFor (getD s (start + 1) 0)))))
 
 -- a list of len bytes in rows of so many, after `had` others: "a row list's length is tested before its room"
 unfoldable pub join : (p had len size most : ℕ) → Answer ℕ

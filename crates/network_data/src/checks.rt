@@ -1,14 +1,14 @@
 // The refusals of a Network Data value: the first that is met in wire order, and the counts of what is passed.
 use crate::Checked;
 use crate::Counts;
-use crate::Head;
 use crate::MAX_BORDER_ROUTERS;
 use crate::MAX_HAS_ROUTES;
 use crate::MAX_PREFIXES;
-use crate::SubTlv;
-use crate::head_at;
-use crate::sub_at;
-use crate::sub_in;
+use network_framing::Head;
+use network_framing::SubTlv;
+use network_framing::head_at;
+use network_framing::sub_at;
+use network_framing::sub_in;
 use refusal::Fault;
 use refusal::Refusal;
 ghost use mathlib.Core.Path.{_≡_};
@@ -16,7 +16,7 @@ ghost use Prim.Native.Nat.{_≤_, _<_};
 ghost use lib.ListN.{length};
 ghost use Rattle.refusal.specs.Answer.{refused};
 ghost use Rattle.refusal.specs.Number.{faultNumber};
-ghost use Rattle.network_data.specs.Walk.{walkIn};
+ghost use Rattle.network_framing.specs.Walk.{walkIn};
 ghost use Rattle.network_data.specs.Rules.{join, rule, checkIn, checkPrefix, checkValue};
 ghost use Rattle.network_data.specs.Answers.{sumAnswer, checkedAnswer};
 

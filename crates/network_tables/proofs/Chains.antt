@@ -10,21 +10,21 @@ use lib.Dec.{eqb, ltb, leb}
 use borrow.Author.Tests.{ltb-false}
 use Rattle.tables.specs.Tab.{tab, steps}
 use Rattle.refusal.specs.Answer.{pick, Answer, given, absent, refused, thenDo}
-use Rattle.network_data.specs.Frame.{subIn}
-use Rattle.network_data.specs.Walk.{Walk, Stop, Piece, piece, walkIn}
-use Rattle.network_data.specs.Rules.{counts, bytesFor, headAt, ended, checkIn, checkHead, checkPrefix, values, checkFrom, checkValue}
+use Rattle.network_framing.specs.Frame.{subIn, bytesFor, headAt}
+use Rattle.network_framing.specs.Walk.{Walk, Stop, Piece, piece, walkIn}
+use Rattle.network_data.specs.Rules.{counts, ended, checkIn, checkHead, checkPrefix, values, checkFrom, checkValue}
 use Rattle.network_data.specs.Decode.{prefixAt, prefixes, contents, entryOf}
 use Rattle.network_tables.specs.Cursor.{spanOf, Whole, SpanHere, entryAt, spanEnd}
-use Rattle.network_data.specs.declared.SubTlv.{SubTlv}
-use Rattle.network_data.specs.declared.SubTlv.the-variants.{Item, Cut, End}
-use Rattle.network_data.specs.declared.Head.{Head}
-use Rattle.network_data.specs.declared.Head.the-variants.{Inner, Short}
+use Rattle.network_framing.specs.declared.SubTlv.{SubTlv}
+use Rattle.network_framing.specs.declared.SubTlv.the-variants.{Item, Cut, End}
+use Rattle.network_framing.specs.declared.Head.{Head}
+use Rattle.network_framing.specs.declared.Head.the-variants.{Inner, Short}
 use Rattle.network_data.specs.declared.Counts.{Counts}
 use Rattle.network_tables.specs.declared.prefixes.Span.{Span}
 use Rattle.network_data.specs.declared.PrefixEntry.{PrefixEntry}
 use Rattle.laws.proofs.Tests.{pick-all, by-test}
 use Rattle.refusal.specs.Sizes.{mostPrefixes}
-use Rattle.network_data.proofs.Walks.{turn-end, turn-cut, turn-items, turn-inside}
+use Rattle.network_framing.proofs.Walks.{turn-end, turn-cut, turn-items, turn-inside}
 use Rattle.tables.proofs.Follows.{follows, reaches}
 
 -- after the first TLV of a walk comes the walk from its end

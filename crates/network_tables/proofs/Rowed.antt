@@ -10,12 +10,12 @@ use lib.Dec.{eqb}
 use borrow.Author.Tests.{eqb-true, eqb-false, eq-eqb, ne-eqb, lt-ltb}
 use Rattle.tables.specs.Tab.{tab, steps}
 use Rattle.refusal.specs.Answer.{pick}
-use Rattle.network_data.specs.Walk.{Piece, walkIn}
-use Rattle.network_data.specs.Rules.{headAt}
+use Rattle.network_framing.specs.Walk.{Piece, walkIn}
+use Rattle.network_framing.specs.Frame.{headAt}
 use Rattle.network_data.specs.Decode.{rowPlaces, placesIn, headItems, inner, prefixAt, prefixes, contents, routeAt, borderAt, allRoutes, allBorders}
 use Rattle.network_tables.specs.Cursor.{rows, orElse, rowsIn, rowsOut, firstRow, nextRow, RowHere, routeOf, borderOf}
-use Rattle.network_data.specs.declared.Head.{Head}
-use Rattle.network_data.specs.declared.Head.the-variants.{Inner, Short}
+use Rattle.network_framing.specs.declared.Head.{Head}
+use Rattle.network_framing.specs.declared.Head.the-variants.{Inner, Short}
 use Rattle.network_tables.specs.declared.rows.Rows.{Rows}
 use Rattle.network_data.specs.declared.HasRouteEntry.{HasRouteEntry}
 use Rattle.network_data.specs.declared.BorderRouterEntry.{BorderRouterEntry}

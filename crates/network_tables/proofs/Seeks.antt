@@ -9,11 +9,11 @@ use lib.ListN.{length, getD, take, drop, set, replicate, length-append, length-t
 use lib.Seq.{drop-cons, take-suc, set-at, append-snoc, length-take-le, take-all, getD-take, getD-drop}
 use borrow.Author.Tests.{eq-eqb, ne-eqb, le-ltb}
 use Rattle.refusal.specs.Answer.{Answer, given, absent}
-use Rattle.network_data.specs.Walk.{Piece, walkIn}
-use Rattle.network_data.specs.Rules.{bytesFor, headAt}
+use Rattle.network_framing.specs.Walk.{Piece, walkIn}
+use Rattle.network_framing.specs.Frame.{bytesFor, headAt}
 use Rattle.network_data.specs.Decode.{placesIn, contextAt, lastContext, headItems, inner, prefixAt, padded, optContext, entryOf}
 use Rattle.network_tables.specs.Cursor.{rows, orElse, rowsIn, rowsOut, spanOf, Whole}
-use Rattle.network_data.specs.declared.Head.the-variants.{Inner}
+use Rattle.network_framing.specs.declared.Head.the-variants.{Inner}
 use Rattle.network_data.specs.declared.SixLowPanContext.{SixLowPanContext}
 use Rattle.network_data.specs.declared.OptContext.{OptContext}
 use Rattle.network_data.specs.declared.OptContext.the-variants as o

@@ -1,16 +1,16 @@
 // A cursor on the rows of one kind: it goes through the inner TLVs of a type, prefix after prefix.
 use network_data::BorderRouterEntry;
 use network_data::HasRouteEntry;
-use network_data::Head;
-use network_data::SubTlv;
-use network_data::head_at;
-use network_data::sub_at;
-use network_data::sub_in;
+use network_framing::Head;
+use network_framing::SubTlv;
+use network_framing::head_at;
+use network_framing::sub_at;
+use network_framing::sub_in;
 ghost use mathlib.Core.Path.{_≡_};
 ghost use Prim.Native.Nat.{_≤_, _<_};
 ghost use lib.ListN.{length};
 ghost use Rattle.tables.specs.Tab.{steps};
-ghost use Rattle.network_data.specs.Walk.{walkIn};
+ghost use Rattle.network_framing.specs.Walk.{walkIn};
 ghost use Rattle.network_data.specs.Decode.{inner};
 ghost use Rattle.network_tables.specs.Cursor.{rowsIn, rowsOut, firstRow, nextRow, RowHere, RowsTo, routeOf, borderOf};
 

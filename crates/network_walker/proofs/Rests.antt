@@ -9,11 +9,11 @@ use Prim.Native.Nat.{ℕ, _+_, _-_}
 use native.Mathlib.Omega.{arith}
 use lib.ListN.{length, take, drop, length-drop}
 use lib.Seq.{take-all}
-use Rattle.network_data.specs.Frame.{subIn}
+use Rattle.network_framing.specs.Frame.{subIn}
 use Rattle.network_walker.specs.Walker.{after, restOf}
-use Rattle.network_data.proofs.SubTlv
-use Rattle.network_data.specs.declared.SubTlv.{SubTlv}
-use Rattle.network_data.specs.declared.SubTlv.the-variants.{Item, Cut, End}
+use Rattle.network_framing.proofs.SubTlv
+use Rattle.network_framing.specs.declared.SubTlv.{SubTlv}
+use Rattle.network_framing.specs.declared.SubTlv.the-variants.{Item, Cut, End}
 
 module _ (s : List ℕ) (r : SubTlv) (found : r ≡ subIn s 0 (length s)) where
   pub rest-item : (t a n : ℕ) → r ≡ Item t a n → take (length s - (a + n)) (drop (a + n) s) ≡ restOf s

@@ -13,12 +13,12 @@ use lib.Dec.{leb, ltb}
 use borrow.Author.Tests.{leb-true, leb-false, le-leb, lt-leb}
 use Rattle.refusal.specs.Answer.{pick, Answer, given, refused}
 use Rattle.laws.proofs.Tests.{by-test}
-use Rattle.network_data.specs.Frame.{subIn}
-use Rattle.network_data.specs.Walk.{Piece, piece, Walk, clean, onto, step, walkIn}
+use Rattle.network_framing.specs.Frame.{subIn}
+use Rattle.network_framing.specs.Walk.{Piece, piece, Walk, clean, onto, step, walkIn}
 use Rattle.network_walker.specs.Walker.{after, restOf, Tlv, Came, came, tlv, finds, comesBy, tlvAt, cameOf, tallied}
-use Rattle.network_data.specs.declared.SubTlv.{SubTlv}
-use Rattle.network_data.specs.declared.SubTlv.the-variants.{Item, Cut, End}
-use Rattle.network_data.proofs.Walks.{walk-step, walk-end, inside, Inside, turn-end, turn-cut, turn-item, turn-inside}
+use Rattle.network_framing.specs.declared.SubTlv.{SubTlv}
+use Rattle.network_framing.specs.declared.SubTlv.the-variants.{Item, Cut, End}
+use Rattle.network_framing.proofs.Walks.{walk-step, walk-end, inside, Inside, turn-end, turn-cut, turn-item, turn-inside}
 
 -- places counted from at, as places of the whole
 unfoldable pub fwd : ℕ → SubTlv → SubTlv

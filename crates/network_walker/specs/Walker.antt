@@ -6,10 +6,10 @@ use lib.ListN.{length, take, drop}
 use lib.Dec.{ltb}
 use Rattle.refusal.specs.Sizes.{mostBytes}
 use Rattle.refusal.specs.Answer.{pick, Answer, given, refused}
-use Rattle.network_data.specs.Frame.{subIn}
-use Rattle.network_data.specs.Walk.{Piece, Stop, clean, short, Walk, walkIn}
-use Rattle.network_data.specs.declared.SubTlv.{SubTlv}
-use Rattle.network_data.specs.declared.SubTlv.the-variants.{Item, Cut, End}
+use Rattle.network_framing.specs.Frame.{subIn}
+use Rattle.network_framing.specs.Walk.{Piece, Stop, clean, short, Walk, walkIn}
+use Rattle.network_framing.specs.declared.SubTlv.{SubTlv}
+use Rattle.network_framing.specs.declared.SubTlv.the-variants.{Item, Cut, End}
 
 -- what follows a TLV that stands in s
 unfoldable pub after : List ℕ → SubTlv → List ℕ

@@ -1,6 +1,6 @@
 // What follows a TLV: the bytes that the walker goes on with.
-use network_data::SubTlv;
-use network_data::sub_at;
+use network_framing::SubTlv;
+use network_framing::sub_at;
 ghost use mathlib.Core.Path.{_≡_};
 ghost use Rattle.network_walker.specs.Walker.{restOf};
 

@@ -3,14 +3,14 @@ mod framing;
 mod walker;
 
 use framing::rest_of;
-use network_data::SubTlv;
-use network_data::sub_at;
+use network_framing::SubTlv;
+use network_framing::sub_at;
 use refusal::Fault;
 use refusal::Refusal;
 use walker::count_all;
 ghost use mathlib.Core.Path.{_≡_};
 ghost use lib.ListN.{length};
-ghost use Rattle.network_data.specs.Frame.{subIn};
+ghost use Rattle.network_framing.specs.Frame.{subIn};
 ghost use Rattle.network_walker.specs.Walker.{restOf, tlvCount};
 ghost use Rattle.network_walker.specs.Answers.{tlvCountAnswer};
 

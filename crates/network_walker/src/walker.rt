@@ -1,13 +1,13 @@
 // The walker's steps for callers that have a plain slice, and the count of a value's TLVs, which is made of them.
 use crate::NetworkDataTlvIter;
 use crate::TlvCount;
-use network_data::SubTlv;
+use network_framing::SubTlv;
 use refusal::Fault;
 use refusal::Refusal;
 ghost use mathlib.Core.Path.{_≡_};
 ghost use lib.ListN.{length};
-ghost use Rattle.network_data.specs.Frame.{subIn};
-ghost use Rattle.network_data.specs.Walk.{walkIn};
+ghost use Rattle.network_framing.specs.Frame.{subIn};
+ghost use Rattle.network_framing.specs.Walk.{walkIn};
 ghost use Rattle.network_walker.specs.Walker.{restOf, tlvsOf};
 ghost use Rattle.network_walker.specs.Answers.{tlvCountAnswer};
 

@@ -3,18 +3,15 @@
 use mathlib.Core.List.{List}
 use mathlib.Core.Path.{_≡_}
 use Prim.Native.Nat.{_%_, ℕ}
-use Rattle.diag_rows.proofs.Papers.{address-list-tells, child-tells, part-tells, route-row-tells, route64-tells}
-use Rattle.diag_rows.specs.Answers.{addressListAnswer, childAnswer, partAnswer, routeAnswer, routeRead}
-use Rattle.diag_rows.specs.Routes.{laidOut, routeOf, routeRows}
-use Rattle.diag_values.specs.Rule.{valueOf}
+use Rattle.diag_rows.proofs.Papers.{address-list-tells, child-tells, part-tells}
+use Rattle.diag_rows.specs.Answers.{addressListAnswer, childAnswer, partAnswer}
+use Rattle.diag_rules.specs.Rule.{valueOf}
 use Rattle.refusal.specs.Numbered.{nth}
 use Rattle.diag_rows.specs.Rows.{addressListOf, addressParts, addresses, childRows, orEmpty, timeoutSeconds}
 use Rattle.diag_rows.specs.declared.ChildTableEntry.{ChildTableEntry}
 use Rattle.diag_rows.specs.declared.ReadAddressList.{ReadAddressList}
 use Rattle.diag_rows.specs.declared.ReadChild.{ReadChild}
 use Rattle.diag_rows.specs.declared.ReadPart.{ReadPart}
-use Rattle.diag_rows.specs.declared.ReadRoute.{ReadRoute}
-use Rattle.diag_rows.specs.declared.ReadRoute64.{ReadRoute64}
 use Rattle.refusal.specs.Answer.{onGiven, thenDo}
 use Rattle.one_answer.specs.One.{One}
 use Rattle.one_answer.proofs.General.{one, one-itself}
@@ -22,14 +19,6 @@ use Rattle.one_answer.proofs.General.{one, one-itself}
 -- diag_rows::decode_child_ipv6_addresses
 pub decode-child-ipv6-addresses : (value : List ℕ) (place : ℕ) → One (λ (r : ReadAddressList). addressListAnswer r ≡ onGiven addressListOf (valueOf 30 place value))
 decode-child-ipv6-addresses value place = one addressListAnswer address-list-tells _
-
--- diag_rows::decode_route64
-pub decode-route64 : (value : List ℕ) (place : ℕ) → One (λ (r : ReadRoute64). routeRead r ≡ laidOut (onGiven routeOf (valueOf 5 place value)))
-decode-route64 value place = one routeRead route64-tells _
-
--- diag_rows::route64_row
-pub route64-row : (value : List ℕ) (k : ℕ) → One (λ (r : ReadRoute). routeAnswer r ≡ thenDo (valueOf 5 0 value) (λ (v : List ℕ). nth (routeRows v) k))
-route64-row value k = one routeAnswer route-row-tells _
 
 -- diag_rows::child_row
 pub child-row : (value : List ℕ) (k : ℕ) → One (λ (r : ReadChild). childAnswer r ≡ thenDo (valueOf 16 0 value) (λ (v : List ℕ). nth (childRows v) k))

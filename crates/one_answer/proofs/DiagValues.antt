@@ -1,15 +1,13 @@
 -- One possible answer for each public call of `diag_values`: each line is the call's own promise.
 -- Assumes nothing.
-use mathlib.Core.Bool.{Bool}
 use mathlib.Core.List.{List}
 use mathlib.Core.Path.{_≡_}
 use Prim.Native.Nat.{ℕ}
-use Rattle.diag_values.proofs.Papers.{connectivity-tells, counters-tells, judged-tells, leader-tells, mode-tells, read8-tells}
-use Rattle.diag_values.specs.Answers.{answer8, connectivityAnswer, countersAnswer, judged, judgedAnswer, leaderAnswer, modeAnswer}
-use Rattle.diag_values.specs.Mask.{bitOf}
-use Rattle.diag_values.specs.Rule.{valueOf}
-use Rattle.diag_values.specs.Values.{byteAt, connectivityOf, countersOf, leaderOf, modeOf, modeValue}
-use Rattle.diag_values.specs.declared.Judged.{Judged}
+use Rattle.diag_rules.specs.Mask.{byteAt}
+use Rattle.diag_rules.specs.Rule.{valueOf}
+use Rattle.diag_values.proofs.Papers.{connectivity-tells, counters-tells, leader-tells, mode-tells, read8-tells}
+use Rattle.diag_values.specs.Answers.{answer8, connectivityAnswer, countersAnswer, leaderAnswer, modeAnswer}
+use Rattle.diag_values.specs.Values.{connectivityOf, countersOf, leaderOf, modeOf, modeValue}
 use Rattle.diag_values.specs.declared.ModeData.{ModeData}
 use Rattle.diag_values.specs.declared.Read8.{Read8}
 use Rattle.diag_values.specs.declared.ReadConnectivity.{ReadConnectivity}
@@ -19,14 +17,6 @@ use Rattle.diag_values.specs.declared.ReadMode.{ReadMode}
 use Rattle.refusal.specs.Answer.{onGiven}
 use Rattle.one_answer.specs.One.{One}
 use Rattle.one_answer.proofs.General.{one, one-itself}
-
--- diag_values::assigns
-pub assigns : (byte k : ℕ) → One (λ (r : Bool). r ≡ bitOf byte k)
-assigns byte k = one-itself _
-
--- diag_values::check_value
-pub check-value : (ty : ℕ) (value : List ℕ) (place : ℕ) → One (λ (r : Judged). judgedAnswer r ≡ judged (valueOf ty place value))
-check-value ty value place = one judgedAnswer judged-tells _
 
 -- diag_values::read_u8
 pub read-u8 : (value : List ℕ) (place : ℕ) → One (λ (r : Read8). answer8 r ≡ onGiven (λ (v : List ℕ). byteAt v 0) (valueOf 14 place value))

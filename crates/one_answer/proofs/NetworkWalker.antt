@@ -4,8 +4,8 @@ use mathlib.Core.List.{List}
 use mathlib.Core.Path.{_≡_}
 use Prim.Native.Nat.{ℕ}
 use lib.ListN.{length}
-use Rattle.network_data.specs.Frame.{subIn}
-use Rattle.network_data.specs.declared.SubTlv.{SubTlv}
+use Rattle.network_framing.specs.Frame.{subIn}
+use Rattle.network_framing.specs.declared.SubTlv.{SubTlv}
 use Rattle.network_walker.proofs.Papers.{tlv-count-tells}
 use Rattle.network_walker.specs.Answers.{tlvCountAnswer}
 use Rattle.network_walker.specs.Walker.{restOf, tlvCount}

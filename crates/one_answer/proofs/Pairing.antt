@@ -5,22 +5,12 @@ use mathlib.Core.Path.{_≡_}
 use Prim.Native.Nat.{ℕ}
 use Rattle.pairing.proofs.Papers.{answered-tells, pairing-tells}
 use Rattle.pairing.specs.Answers.{answeredAnswer, pairingAnswer}
-use Rattle.pairing.specs.Pairing.{codeOf, meant}
 use Rattle.pairing.specs.Payload.{codes, rowPairing}
 use Rattle.pairing.specs.declared.Answered.{Answered}
-use Rattle.pairing.specs.declared.Pairing.{Pairing}
 use Rattle.pairing.specs.declared.ReadPairing.{ReadPairing}
 use Rattle.refusal.specs.Output.{emit, output}
 use Rattle.one_answer.specs.One.{Leaves, One}
-use Rattle.one_answer.proofs.General.{leaves, one, one-itself}
-
--- pairing::Pairing::code
-pub pairing-code : (self : Pairing) → One (λ (r : ℕ). r ≡ codeOf self)
-pairing-code self = one-itself _
-
--- pairing::Pairing::from_code
-pub pairing-from-code : (code : ℕ) → One (λ (r : Pairing). r ≡ meant code)
-pairing-from-code code = one-itself _
+use Rattle.one_answer.proofs.General.{leaves, one}
 
 -- pairing::pair
 pub pair : (payload : List ℕ) (out : List ℕ) → Leaves (λ (r : Answered) (left : List ℕ). output (answeredAnswer r) left ≡ emit (codes payload) out)

@@ -2,11 +2,11 @@
 -- Assumes nothing.
 use mathlib.Core.Path.{_≡_, refl, sym, ap, _∙_, subst}
 use mathlib.Core.List.{List, [], _∷_, map}
-use Prim.Native.Nat.{ℕ, _≤_, _<_}
+use Prim.Native.Nat.{ℕ, _≤_}
 use native.Mathlib.Omega.{arith}
 use lib.Dec.{eqb, ltb}
 use lib.ListN.{length, length-map}
-use borrow.Author.Tests.{ne-eqb, ltb-false}
+use borrow.Author.Tests.{ltb-false}
 use Rattle.refusal.specs.Sizes.{mostBytes, mostEntries}
 use Rattle.refusal.specs.Answer.{Answer, given, absent, refused, thenDo, onGiven}
 use Rattle.refusal.specs.Every.{Every}
@@ -19,29 +19,15 @@ use Rattle.diag_entries.specs.Parts.{allOf}
 use Rattle.diag_entries.specs.Checked.{checked}
 use Rattle.diag_entries.specs.Lists.{AddressList, addressList, addressLists}
 use Rattle.diag_entries.proofs.Checks.{checked-given}
-use Rattle.pairing.specs.Pairing.{codeNone, codeUnclear, pairing, codeOf, meant}
+use Rattle.pair_codes.specs.Codes.{codeUnclear, codeOf, meant}
+use Rattle.pairing.specs.Pairing.{pairing}
 use Rattle.pairing.specs.Payload.{rowIds, listIds, pairings, paired, codes, rowPairing}
-use Rattle.pairing.specs.declared.Pairing.{Pairing}
-use Rattle.pairing.specs.declared.Pairing.the-variants as p
+use Rattle.pair_codes.specs.declared.Pairing.{Pairing}
+use Rattle.pair_codes.specs.declared.Pairing.the-variants as p
+use Rattle.pair_codes.proofs.Back.{Below, codes-back}
 use Rattle.pairing.proofs.Rowed.{nth-map}
 use Rattle.pairing.proofs.Sense.{paired-is}
 use Rattle.pairing.proofs.Payloads.{framed-by}
-
--- ---- a pair whose list has a small number
-abbrev Below : ℕ → Pairing → Type 0
-Below n (p.Paired k) = k < n
-Below n p.None = Unit {0}
-Below n p.Unclear = Unit {0}
-
-pub code-back : (x : Pairing) → Below codeUnclear x → meant (codeOf x) ≡ x
-unfolding meant
-code-back (p.Paired k) h = rw (ne-eqb k codeNone (λ e. omega arith), ne-eqb k codeUnclear (λ e. omega arith))
-code-back p.None h = refl
-code-back p.Unclear h = refl
-
-codes-back : (xs : List Pairing) → Every (Below codeUnclear) xs → map meant (map codeOf xs) ≡ xs
-codes-back [] h = refl
-codes-back (x ∷ xs) h = ap (λ (y : Pairing). y ∷ map meant (map codeOf xs)) (code-back x (h .0)) ∙ ap (_∷_ x) (codes-back xs (h .1))
 
 -- ---- the lists of a payload are no more than its entries, and those are few
 few-lists : (es : List Entry) → length (allOf 30 es) ≤ length es

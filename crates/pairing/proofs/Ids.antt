@@ -15,12 +15,12 @@ use Rattle.laws.proofs.Tests.{by-test}
 use Rattle.laws.proofs.Puts.{put-byte}
 use Rattle.tlv.specs.Entries.{Entry, Framing, framing}
 use Rattle.tlv.proofs.Walks.{from, from-start}
-use Rattle.diag_values.specs.Rule.{valueOf}
+use Rattle.diag_rules.specs.Rule.{valueOf}
 use Rattle.refusal.specs.Numbered.{nth}
 use Rattle.diag_rows.specs.Rows.{childAt, childRows, addressListOf}
 use Rattle.diag_rows.specs.declared.ChildTableEntry.{ChildTableEntry}
 use Rattle.diag_rows.specs.declared.ChildIpv6AddrInfo.{ChildIpv6AddrInfo}
-use Rattle.diag_values.proofs.Kept.{value-cases}
+use Rattle.diag_rules.proofs.Kept.{value-cases}
 use Rattle.diag_entries.specs.Parts.{allOf}
 use Rattle.pairing.specs.Loops.{orZero, rowIdAt, rowsOf, listIdOf, listsOf, codeBy, codesBy}
 use Rattle.pairing.proofs.Rowed.{listed-length, listed-at, drop-map, nth-in, nth-out}

@@ -17,7 +17,7 @@ use Rattle.diag_entries.specs.Checked.{checked}
 use Rattle.diag_entries.specs.Lists.{addressLists}
 use Rattle.pairing.specs.Pairing.{occurs, pairing}
 use Rattle.pairing.specs.Payload.{rowIds, listIds, pairings, paired, codes}
-use Rattle.pairing.specs.declared.Pairing.the-variants as p
+use Rattle.pair_codes.specs.declared.Pairing.the-variants as p
 use Rattle.pairing.proofs.Ids.{rowId}
 use Rattle.pairing.proofs.Rowed.{nth-map}
 use Rattle.pairing.proofs.Sense.{Pair, paired-is, none-is, is-unclear, occurs-twice}

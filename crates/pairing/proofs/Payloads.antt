@@ -16,7 +16,7 @@ use Rattle.tlv.specs.Entries.{Entry, framing}
 use Rattle.tlv.specs.Limits.{framed, count}
 use Rattle.tlv.proofs.Tally.{Only, only, counted-short}
 use Rattle.tlv.specs.Last.{lastOf, lastEntry, valueOr, lastValue}
-use Rattle.diag_values.specs.Rule.{keepsRule, valueOf}
+use Rattle.diag_rules.specs.Rule.{keepsRule, valueOf}
 use Rattle.refusal.specs.Numbered.{nth}
 use Rattle.diag_rows.specs.Rows.{childAt, childRows, addressListOf}
 use Rattle.diag_rows.specs.declared.ChildTableEntry.{ChildTableEntry}
@@ -24,10 +24,11 @@ use Rattle.diag_entries.specs.Parts.{last, allOf}
 use Rattle.diag_entries.specs.Checked.{decoding, checked}
 use Rattle.diag_entries.specs.Lists.{addressLists}
 use Rattle.diag_entries.proofs.Checks.{Decodes, entry-other, checked-given, checked-refused}
-use Rattle.pairing.specs.Pairing.{pairing, codeOf}
+use Rattle.pairing.specs.Pairing.{pairing}
+use Rattle.pair_codes.specs.Codes.{codeOf}
 use Rattle.pairing.specs.Payload.{rowIds, listIds, pairings, paired, codes, rowPairing}
 use Rattle.pairing.specs.Loops.{orZero, rowIdAt, rowsOf, listIdOf, listsOf, Counts, Places, judged, codesBy}
-use Rattle.pairing.specs.declared.Pairing.{Pairing}
+use Rattle.pair_codes.specs.declared.Pairing.{Pairing}
 use Rattle.pairing.proofs.Rowed.{listed-map, listed-same, every-listed, map-same, nth-in, nth-out, nth-map}
 use Rattle.pairing.proofs.Sense.{judged-is}
 use Rattle.pairing.proofs.Ids.{rowOf, rowId, row-id-low, rows-length}

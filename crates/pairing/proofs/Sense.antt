@@ -13,8 +13,8 @@ use Rattle.laws.proofs.Tests.{by-test}
 use Rattle.refusal.specs.Numbered.{nth}
 use Rattle.pairing.specs.Pairing.{occurs, placeOf, pairing}
 use Rattle.pairing.specs.Loops.{lastPlace, judged}
-use Rattle.pairing.specs.declared.Pairing.{Pairing}
-use Rattle.pairing.specs.declared.Pairing.the-variants as p
+use Rattle.pair_codes.specs.declared.Pairing.{Pairing}
+use Rattle.pair_codes.specs.declared.Pairing.the-variants as p
 
 -- ---- by the counts
 module _ (rows lists : List ℕ) (id : ℕ) where

@@ -7,15 +7,16 @@ use lib.ListN.{length, getD}
 use lib.Dec.{eqb}
 use Rattle.refusal.specs.Answer.{pick, Answer, given, absent, refused, thenDo, onGiven}
 use Rattle.tlv.specs.Entries.{Entry}
-use Rattle.diag_values.specs.Rule.{valueOf}
+use Rattle.diag_rules.specs.Rule.{valueOf}
 use Rattle.refusal.specs.Numbered.{nth}
 use Rattle.diag_rows.specs.Rows.{listed, childRows, addressListOf}
 use Rattle.diag_rows.specs.declared.ChildTableEntry.{ChildTableEntry}
 use Rattle.diag_rows.specs.declared.ChildIpv6AddrInfo.{ChildIpv6AddrInfo}
 use Rattle.diag_entries.specs.Parts.{allOf}
-use Rattle.pairing.specs.Pairing.{occurs, codeOf}
-use Rattle.pairing.specs.declared.Pairing.{Pairing}
-use Rattle.pairing.specs.declared.Pairing.the-variants as p
+use Rattle.pairing.specs.Pairing.{occurs}
+use Rattle.pair_codes.specs.Codes.{codeOf}
+use Rattle.pair_codes.specs.declared.Pairing.{Pairing}
+use Rattle.pair_codes.specs.declared.Pairing.the-variants as p
 
 -- ---- child IDs, 0 where a value is refused: that does not occur in a payload that was checked
 

@@ -1,12 +1,12 @@
--- The pairing of one child ID, and the numbers that stand for it in an output. Document 01: "a child table row is paired with an address list if its
--- child ID stands once in the table and once among the lists; "none" if once in the table and in no list; else "unclear"."
+-- The pairing of one child ID. Document 01: "a child table row is paired with an address list if its child ID stands once in the table and once among
+-- the lists; "none" if once in the table and in no list; else "unclear"."
 -- Assumes nothing.
 use Prim.Native.Nat.{ℕ, suc}
 use mathlib.Core.List.{List, [], _∷_}
 use lib.Dec.{eqb}
 use Rattle.refusal.specs.Answer.{pick}
-use Rattle.pairing.specs.declared.Pairing.{Pairing}
-use Rattle.pairing.specs.declared.Pairing.the-variants as p
+use Rattle.pair_codes.specs.declared.Pairing.{Pairing}
+use Rattle.pair_codes.specs.declared.Pairing.the-variants as p
 
 -- how often x stands in ys
 unfoldable pub occurs : ℕ → List ℕ → ℕ
@@ -24,21 +24,3 @@ pairing rows lists id =
     pick (eqb (occurs id rows) 1)
     (pick (eqb (occurs id lists) 1) (p.Paired (placeOf id lists)) (pick (eqb (occurs id lists) 0) p.None p.Unclear))
     p.Unclear
-
--- ---- in an output of numbers
-
-abbrev pub codeNone : ℕ
-codeNone = 65535
-
-abbrev pub codeUnclear : ℕ
-codeUnclear = 65534
-
--- a pair is the number of its list
-abbrev pub codeOf : Pairing → ℕ
-codeOf (p.Paired k) = k
-codeOf p.None = codeNone
-codeOf p.Unclear = codeUnclear
-
--- what a number says (`codes-mean`, proofs/Codes.antt: of all that `pair` writes, what was said)
-unfoldable pub meant : (code : ℕ) → Pairing
-meant c = pick (eqb c codeNone) p.None (pick (eqb c codeUnclear) p.Unclear (p.Paired c))

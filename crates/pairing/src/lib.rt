@@ -1,6 +1,7 @@
 // Rows of a payload's child table, paired with its address lists by child ID.
 use diag_rows::ReadAddressList;
 use diag_rows::ReadChild;
+use pair_codes::Pairing;
 use refusal::Fault;
 use refusal::Refusal;
 use tlv::Counted;
@@ -11,22 +12,9 @@ ghost use lib.ListN.{length};
 ghost use Rattle.refusal.specs.Sizes.{mostBytes};
 ghost use Rattle.refusal.specs.Output.{put, output, emit};
 ghost use Rattle.tlv.specs.Entries.{framing};
-ghost use Rattle.pairing.specs.Pairing.{codeOf, meant};
 ghost use Rattle.pairing.specs.Payload.{codes, rowPairing};
 ghost use Rattle.pairing.specs.Answers.{answeredAnswer, pairingAnswer};
 ghost use Rattle.pairing.specs.Loops.{rowIdAt, listIdOf, rowsOf, listsOf, Counts, Places, judged, codesBy};
-
-// In an output of numbers a pair is the number of its list; these stand for the other two answers.
-pub const CODE_NONE: u16 = 65535;
-
-pub const CODE_UNCLEAR: u16 = 65534;
-
-// What is said of a row of the child table: it is paired with the address list of that number, from 0; it has none; or that is unclear.
-pub enum Pairing {
-    Paired(u16),
-    None,
-    Unclear,
-}
 
 // How many rows were answered.
 pub enum Answered {
@@ -45,32 +33,6 @@ pub enum ReadPairing {
 struct Lists {
     count: [u16; 512],
     place: [u16; 512],
-}
-
-impl Pairing {
-    // The number that stands for it in an output.
-    pub fn code(self) -> u16
-        ensures { λ r. ⌜ r ≡ codeOf self ⌝ }
-    {
-        match self {
-            Pairing::Paired(list) => list,
-            Pairing::None => CODE_NONE,
-            Pairing::Unclear => CODE_UNCLEAR,
-        }
-    }
-
-    // What a number of an output says.
-    pub fn from_code(code: u16) -> Pairing
-        ensures { λ r. ⌜ r ≡ meant code ⌝ }
-    {
-        if code == CODE_NONE {
-            return Pairing::None;
-        }
-        if code == CODE_UNCLEAR {
-            return Pairing::Unclear;
-        }
-        Pairing::Paired(code)
-    }
 }
 
 // The child ID of row k of a child table, 0 where there is no such row.
@@ -124,7 +86,7 @@ fn count_lists(payload: &[u8]) -> Lists
         match tlv::frame_at(payload, at) {
             Frame::Entry { ty, start, len } => {
                 let next = start + len;
-                if ty == diag_values::CHILD_IPV6_ADDRESSES {
+                if ty == diag_rules::CHILD_IPV6_ADDRESSES {
                     let id = list_id(&payload[start..next]);
                     count[id] = count[id] + 1;
                     place[id] = n;
@@ -183,7 +145,7 @@ pub fn pair(payload: &[u8], out: &mut [u16]) -> Answered
         }
         Counted::Entries(_) => {}
     }
-    let table = tlv::last_value(payload, diag_values::CHILD_TABLE);
+    let table = tlv::last_value(payload, diag_rules::CHILD_TABLE);
     let n = table.len() / 3;
     if n > out.len() {
         return Answered::Refused(Refusal {
@@ -206,7 +168,7 @@ pub fn pair_row(payload: &[u8], k: usize) -> ReadPairing
         }
         Counted::Entries(_) => {}
     }
-    let table = tlv::last_value(payload, diag_values::CHILD_TABLE);
+    let table = tlv::last_value(payload, diag_rules::CHILD_TABLE);
     if k >= table.len() / 3 {
         return ReadPairing::Absent;
     }

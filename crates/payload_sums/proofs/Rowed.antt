@@ -7,12 +7,12 @@ use native.Mathlib.Omega.{arith}
 use lib.ListN.{length, getD}
 use Rattle.refusal.specs.Answer.{Answer, given, absent, refused, onGiven}
 use Rattle.tlv.specs.Entries.{Entry, entry, framing}
-use Rattle.diag_rows.specs.Routes.{routeOf}
+use Rattle.route64.specs.Routes.{routeOf}
 use Rattle.diag_rows.specs.Rows.{Part, childRows, addresses, addressListOf}
-use Rattle.diag_values.specs.Rule.{valueOf}
-use Rattle.diag_values.specs.Answers.{judged}
+use Rattle.diag_rules.specs.Rule.{valueOf}
+use Rattle.diag_rules.specs.Answers.{judged}
 use Rattle.diag_rows.specs.declared.ChildIpv6AddrInfo.{ChildIpv6AddrInfo}
-use Rattle.diag_values.proofs.Kept.{kept, list-size}
+use Rattle.diag_rules.proofs.Kept.{kept, list-size}
 use Rattle.diag_entries.specs.Parts.{Said, lastPart}
 use Rattle.diag.specs.Diag.{Diag, diag, decode}
 use Rattle.diag_entries.specs.Answers.{bytesAt, saidAt}

@@ -5,12 +5,12 @@ use mathlib.Core.List.{List, [], _∷_}
 use lib.ListN.{length, getD, take, drop}
 use Rattle.refusal.specs.Answer.{Answer, given, absent, refused, thenDo, onGiven}
 use Rattle.tlv.specs.Entries.{Entry, framing}
-use Rattle.diag_rows.specs.Routes.{routeRow, routeOf, laidOut}
+use Rattle.route64.specs.Routes.{routeRow, routeOf, laidOut}
 use Rattle.refusal.specs.Numbered.{nth}
 use Rattle.diag_rows.specs.Rows.{Part, childRows, addresses, orEmpty, addressListOf}
-use Rattle.diag_values.specs.Rule.{valueOf}
-use Rattle.diag_rows.specs.declared.RouteDataEntry.{RouteDataEntry}
-use Rattle.diag_rows.specs.declared.Route64.{Route64}
+use Rattle.diag_rules.specs.Rule.{valueOf}
+use Rattle.route64.specs.declared.RouteDataEntry.{RouteDataEntry}
+use Rattle.route64.specs.declared.Route64.{Route64}
 use Rattle.diag_rows.specs.declared.ChildTableEntry.{ChildTableEntry}
 use Rattle.diag_rows.specs.declared.ChildIpv6AddrInfo.{ChildIpv6AddrInfo}
 use Rattle.diag_entries.specs.Parts.{Said, allOf}

@@ -8,8 +8,8 @@ use diag::OptPart;
 use diag_rows::ChildTableEntry;
 use diag_rows::ReadAddressList;
 use diag_rows::ReadChild;
-use diag_rows::Route64;
-use diag_rows::RouteDataEntry;
+use route64::Route64;
+use route64::RouteDataEntry;
 use tlv::Found;
 ghost use mathlib.Core.Path.{_≡_};
 ghost use Rattle.diag.specs.Diag.{decode};
@@ -68,7 +68,7 @@ fn routes_in(payload: &[u8], p: OptPart) -> u64
     match p {
         OptPart::Some { start, len } => {
             let end = start + len;
-            let read = diag_rows::decode_route64(&payload[start..end], 0);
+            let read = route64::decode_route64(&payload[start..end], 0);
             let route = read.route;
             route64_sum(route)
         }
@@ -186,7 +186,7 @@ fn lists_sum(payload: &[u8]) -> u64
     let mut n: u64 = 0;
     let mut at: usize = 0;
     loop {
-        match diag_entries::next_child_list(payload, at) {
+        match child_lists::next_child_list(payload, at) {
             Found::At {
                 place: _,
                 start,

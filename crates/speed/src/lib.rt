@@ -22,7 +22,7 @@ ghost use Rattle.change_lists.specs.Run.{ran};
 ghost use Rattle.change_lists.specs.Fold.{folded};
 ghost use Rattle.network_data.specs.Decode.{countsOf, decodeNetworkData};
 ghost use Rattle.diag_values.specs.Values.{modeValue};
-ghost use Rattle.diag_values.specs.Rule.{valueOf};
+ghost use Rattle.diag_rules.specs.Rule.{valueOf};
 ghost use Rattle.diag.specs.Diag.{decode};
 ghost use Rattle.speed.specs.Code.{code};
 ghost use Rattle.payload_sums.specs.Sums.{modeSum, countsSum};

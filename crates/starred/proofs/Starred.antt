@@ -10,21 +10,21 @@ use Rattle.policy_flags.specs.Threshold.{threshold, withThreshold}
 use Rattle.change_lists.specs.Operations.{setOf, removalOf, firstOp, opStep, opsIn, opsOf, bare, limitedOps, operations}
 use Rattle.change_lists.specs.Fold.{about, touches, lasts, setsOf, removes, removalsBelow, types, foldAll, encodeOp, encodeOps, sizedOps, folded}
 use Rattle.change_lists.specs.Run.{perform, runAll, ran}
-use Rattle.network_data.specs.Frame as frame
-use Rattle.network_data.specs.Walk as walk
+use Rattle.network_framing.specs.Frame as frame
+use Rattle.network_framing.specs.Walk as walk
 use Rattle.network_data.specs.Rules as rules
 use Rattle.network_data.specs.Decode as decode
-use Rattle.diag_values.specs.Mask.{bitOf, routers, routersOf, routesFit}
-use Rattle.diag_rows.specs.Routes.{rowsOf, routeRows}
+use Rattle.diag_rules.specs.Mask.{bitOf, routers, routersOf, routesFit}
+use Rattle.route64.specs.Routes.{rowsOf, routeRows}
 use Rattle.diag_rows.specs.Rows.{listed, childRows, timeoutSeconds}
-use Rattle.diag_values.specs.Rule.{keepsRule, valueOf}
+use Rattle.diag_rules.specs.Rule.{keepsRule, valueOf}
 use Rattle.starred.specs.Sheet.{Holds, sheet}
 use Rattle.starred.proofs.Same.{all-hold}
 
 pub starred : Every Holds sheet
 unfolding beFrom be bytesOf valued long first contents step frames framing limited framed header encode encodeAll keepsOf kept rewritten setLast sized
     threshold withThreshold setOf removalOf firstOp opStep opsIn opsOf bare limitedOps operations about touches lasts setsOf removes removalsBelow
-    types foldAll encodeOp encodeOps sizedOps folded perform runAll ran frame.subIn walk.step walk.walk walk.walkIn rules.headAt rules.ended
+    types foldAll encodeOp encodeOps sizedOps folded perform runAll ran frame.subIn walk.step walk.walk walk.walkIn frame.headAt rules.ended
     rules.rules rules.checkIn rules.checkHead rules.checkPrefix rules.values rules.checkFrom rules.checkValue decode.placesIn decode.headItems
     decode.inner decode.prefixAt decode.prefixes decode.contents decode.decodeNetworkData bitOf routers routersOf routesFit rowsOf routeRows listed
     childRows timeoutSeconds keepsRule valueOf

@@ -14,7 +14,7 @@ use Rattle.policy_flags.specs.declared.ThreadProtocolVersion.the-variants.{V1Or
 use Rattle.change_lists.specs.Fold.{folded}
 use Rattle.change_lists.specs.Run.{ran}
 use Rattle.network_data.specs.Decode.{decodeNetworkData}
-use Rattle.diag_values.specs.Rule.{valueOf}
+use Rattle.diag_rules.specs.Rule.{valueOf}
 use Rattle.starred.specs.Shown.{versionNumber, entriesShown, routesShown, childrenShown, prefixesShown}
 
 -- a line: what a definition says of an input, and what the sheet states

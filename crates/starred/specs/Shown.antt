@@ -8,9 +8,9 @@ use Rattle.tlv.specs.Entries.{Entry}
 use Rattle.timestamps.specs.Timestamps.{bitOf}
 use Rattle.policy_flags.specs.declared.ThreadProtocolVersion.{ThreadProtocolVersion}
 use Rattle.policy_flags.specs.declared.ThreadProtocolVersion.the-variants as v
-use Rattle.diag_rows.specs.Routes.{routeRows}
+use Rattle.route64.specs.Routes.{routeRows}
 use Rattle.diag_rows.specs.Rows.{childRows, timeoutSeconds}
-use Rattle.diag_rows.specs.declared.RouteDataEntry.{RouteDataEntry}
+use Rattle.route64.specs.declared.RouteDataEntry.{RouteDataEntry}
 use Rattle.diag_rows.specs.declared.ChildTableEntry.{ChildTableEntry}
 use Rattle.network_data.specs.Decode.{Prefix}
 

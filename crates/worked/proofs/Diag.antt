@@ -9,11 +9,11 @@ use Rattle.wire.specs.Be.{be, beFrom}
 use Rattle.tlv.specs.Entries.{valued, first, step, frames, framing}
 use Rattle.tlv.specs.Limits.{limited, framed}
 use Rattle.tlv.specs.Last.{lastOf}
-use Rattle.network_data.specs.Frame.{subIn}
-use Rattle.network_data.specs.Walk as w
-use Rattle.network_data.specs.Rules.{headAt, ended, rules, checkIn, checkHead, checkPrefix, values, checkFrom, checkValue}
+use Rattle.network_framing.specs.Frame.{subIn, headAt}
+use Rattle.network_framing.specs.Walk as w
+use Rattle.network_data.specs.Rules.{ended, rules, checkIn, checkHead, checkPrefix, values, checkFrom, checkValue}
 use Rattle.network_data.specs.Decode.{prefixes, contents, allRoutes, allBorders, countsOf, decodeNetworkData}
-use Rattle.diag_values.specs.Rule.{keepsRule, valueOf}
+use Rattle.diag_rules.specs.Rule.{keepsRule, valueOf}
 use Rattle.refusal.specs.Numbered.{nth}
 use Rattle.diag_rows.specs.Rows.{listed, childRows, addresses}
 use Rattle.diag_entries.specs.Parts.{allOf, Said}

@@ -5,9 +5,9 @@ use mathlib.Core.Bool.{true}
 use mathlib.Core.List.{List, [], _∷_}
 use Rattle.refusal.specs.Answer.{Answer, given, absent, refused}
 use Rattle.refusal.specs.Every.{Every}
-use Rattle.network_data.specs.Frame.{subIn}
-use Rattle.network_data.specs.Walk.{step, walk, walkIn}
-use Rattle.network_data.specs.Rules.{headAt, join, rule, ended, rules, checkIn, checkHead, checkPrefix, values, checkFrom, checkValue}
+use Rattle.network_framing.specs.Frame.{subIn, headAt}
+use Rattle.network_framing.specs.Walk.{step, walk, walkIn}
+use Rattle.network_data.specs.Rules.{join, rule, ended, rules, checkIn, checkHead, checkPrefix, values, checkFrom, checkValue}
 use Rattle.network_data.specs.Decode.{rowPlaces, placesIn, lastContext, Prefix, headItems, inner, prefixAt, prefixes, contents, decodeNetworkData}
 
 -- an answer, and what it is

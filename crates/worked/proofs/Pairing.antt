@@ -10,12 +10,13 @@ use Rattle.wire.specs.Be.{beFrom, be}
 use Rattle.tlv.specs.Entries.{valued, first, step, frames, framing}
 use Rattle.tlv.specs.Limits.{limited, framed}
 use Rattle.tlv.specs.Last.{lastOf}
-use Rattle.diag_values.specs.Rule.{keepsRule, valueOf}
+use Rattle.diag_rules.specs.Rule.{keepsRule, valueOf}
 use Rattle.diag_rows.specs.Rows.{listed, childRows}
 use Rattle.diag_entries.specs.Parts.{allOf}
 use Rattle.diag_entries.specs.Checked.{entryValue, decoding, checked}
 use Rattle.diag_entries.specs.Lists.{addressLists}
-use Rattle.pairing.specs.Pairing.{occurs, placeOf, pairing, codeNone, codeUnclear}
+use Rattle.pairing.specs.Pairing.{occurs, placeOf, pairing}
+use Rattle.pair_codes.specs.Codes.{codeNone, codeUnclear}
 use Rattle.pairing.specs.Payload.{rowIds, listIds, pairings, paired, codes}
 
 -- an answer, and what it must be

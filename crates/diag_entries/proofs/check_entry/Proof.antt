@@ -3,7 +3,7 @@
 use mathlib.Core.Path.{sym, ap, _∙_}
 use Rattle.refusal.specs.Answer.{onGiven}
 use Rattle.network_data.specs.Answers.{checkedAnswer}
-use Rattle.diag_values.specs.Answers.{judged}
+use Rattle.diag_rules.specs.Answers.{judged}
 use Rattle.diag_entries.proofs.Checks.{network-judged, entry-other}
 use borrow.Author.Needs.{needs}
 use Rattle.diag_entries.proofs.check_entry.Statement.{statement}

@@ -10,7 +10,7 @@ use borrow.Author.Needs.{needs}
 use Rattle.refusal.specs.Answer.{onGiven}
 use Rattle.tlv.specs.Answers.{countedAnswer}
 use Rattle.tlv.proofs.Walks.{from, turn-entries, turn-none, turn-inside}
-use Rattle.diag_values.specs.Answers.{judgedAnswer}
+use Rattle.diag_rules.specs.Answers.{judgedAnswer}
 use Rattle.diag_entries.specs.Checked.{checked}
 use Rattle.diag_entries.proofs.Checks.{verdict, verdict-next, verdict-stop, verdict-end, check-start, check-refused}
 use Rattle.diag_entries.proofs.check_values.Statement.{statement}

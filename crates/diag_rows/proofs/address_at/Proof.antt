@@ -5,8 +5,8 @@ use mathlib.Core.List.{List}
 use Prim.Native.Nat.{ℕ}
 use Rattle.refusal.specs.Numbered.{nth}
 use Rattle.diag_rows.specs.Rows.{addressParts}
-use Rattle.diag_values.specs.Answers.{judgedAnswer}
-use Rattle.diag_values.proofs.Kept.{row-kept, row-refused}
+use Rattle.diag_rules.specs.Answers.{judgedAnswer}
+use Rattle.diag_rules.proofs.Kept.{row-kept, row-refused}
 use Rattle.diag_rows.proofs.Listing.{part-in, part-out}
 use borrow.Author.Needs.{needs}
 use Rattle.diag_rows.proofs.address_at.Statement.{statement}

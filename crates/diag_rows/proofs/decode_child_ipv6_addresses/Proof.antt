@@ -2,8 +2,8 @@
 -- Assumes nothing.
 use mathlib.Core.Path.{sym, ap, _∙_}
 use Rattle.diag_rows.specs.Rows.{addressListOf}
-use Rattle.diag_values.specs.Answers.{judgedAnswer}
-use Rattle.diag_values.proofs.Kept.{read-kept, read-refused, list-size}
+use Rattle.diag_rules.specs.Answers.{judgedAnswer}
+use Rattle.diag_rules.proofs.Kept.{read-kept, read-refused, list-size}
 use borrow.Author.Needs.{needs}
 use Rattle.diag_rows.proofs.decode_child_ipv6_addresses.Statement.{statement}
 use Rattle.diag_rows.proofs.decode_child_ipv6_addresses.Tie as tie

@@ -4,9 +4,9 @@ use mathlib.Core.Path.{refl, sym, ap, _∙_}
 use mathlib.Core.List.{List}
 use Prim.Native.Nat.{ℕ}
 use native.Mathlib.Omega.{arith}
-use Rattle.diag_values.specs.Values.{byteAt}
-use Rattle.diag_values.specs.Answers.{judgedAnswer}
-use Rattle.diag_values.proofs.Kept.{read-kept, read-refused, battery-size}
+use Rattle.diag_rules.specs.Mask.{byteAt}
+use Rattle.diag_rules.specs.Answers.{judgedAnswer}
+use Rattle.diag_rules.proofs.Kept.{read-kept, read-refused, battery-size}
 use borrow.Author.Needs.{needs}
 use Rattle.diag_values.proofs.read_u8.Statement.{statement}
 use Rattle.diag_values.proofs.read_u8.Tie as tie

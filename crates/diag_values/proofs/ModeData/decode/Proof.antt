@@ -3,8 +3,8 @@
 use mathlib.Core.Path.{sym, ap, _∙_}
 use native.Mathlib.Omega.{arith}
 use Rattle.diag_values.specs.Values.{modeValue}
-use Rattle.diag_values.specs.Answers.{judgedAnswer}
-use Rattle.diag_values.proofs.Kept.{read-kept, read-refused, mode-size}
+use Rattle.diag_rules.specs.Answers.{judgedAnswer}
+use Rattle.diag_rules.proofs.Kept.{read-kept, read-refused, mode-size}
 use borrow.Author.Needs.{needs}
 use Rattle.diag_values.proofs.ModeData.decode.Statement.{statement}
 use Rattle.diag_values.proofs.ModeData.decode.Tie as tie

@@ -4,10 +4,10 @@ use borrow.Author.Needs.{needs}
 use mathlib.Core.Path.{_≡_, refl, sym, ap, _∙_}
 use Prim.Native.Nat.{_-_}
 use native.Mathlib.Omega.{arith}
-use Rattle.network_data.specs.Walk.{walkIn}
+use Rattle.network_framing.specs.Walk.{walkIn}
 use Rattle.network_data.specs.Answers.{checkedAnswer}
 use Rattle.network_data.specs.Rules.{checkIn}
-use Rattle.network_data.proofs.Walks.{turn-end, turn-cut, turn-item, turn-inside}
+use Rattle.network_framing.proofs.Walks.{turn-end, turn-cut, turn-item, turn-inside}
 use Rattle.network_data.proofs.Passes.{in-end, in-cut, in-more, in-refused}
 use Rattle.network_data.proofs.checks.check_inner.Statement.{statement}
 use Rattle.network_data.proofs.checks.check_inner.Tie as tie

@@ -5,13 +5,12 @@ use mathlib.Core.Path.{_≡_, ap, _∙_}
 use Prim.Native.Nat.{_+_, _-_, _≤_}
 use native.Mathlib.Omega.{arith}
 use lib.ListN.{length}
-use Rattle.network_data.specs.Walk.{walkIn}
-use Rattle.network_data.proofs.Walks.{turn-items, turn-none, turn-inside}
+use Rattle.network_framing.specs.Walk.{walkIn, Piece}
+use Rattle.network_framing.proofs.Walks.{turn-items, turn-none, turn-inside}
 use native.Mathlib.Nat.{div-le-self, zero-add}
 use Rattle.network_data.specs.Decode.{placesIn}
 use Rattle.network_tables.proofs.Seeks.{rows-none, rows-more, rows-same}
 use mathlib.Core.List.{List}
-use Rattle.network_data.specs.Walk.{Piece}
 use Rattle.network_tables.proofs.prefixes.rows_in.Statement.{statement}
 use Rattle.network_tables.proofs.prefixes.rows_in.Tie as tie
 

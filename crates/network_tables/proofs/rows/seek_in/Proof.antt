@@ -4,8 +4,8 @@ use borrow.Author.Needs.{needs}
 use mathlib.Core.Path.{_≡_, refl, sym, ap, _∙_}
 use Prim.Native.Nat.{_-_}
 use native.Mathlib.Omega.{arith}
-use Rattle.network_data.specs.Walk.{walkIn}
-use Rattle.network_data.proofs.Walks.{turn-items, turn-none, turn-inside}
+use Rattle.network_framing.specs.Walk.{walkIn}
+use Rattle.network_framing.proofs.Walks.{turn-items, turn-none, turn-inside}
 use Rattle.network_tables.specs.Cursor.{rowsIn}
 use Rattle.network_tables.proofs.Seeks.{in-empty, in-miss, in-hit, in-none}
 use Rattle.network_tables.proofs.rows.seek_in.Statement.{statement}

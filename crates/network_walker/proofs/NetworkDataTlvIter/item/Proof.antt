@@ -42,17 +42,17 @@ use denote.Triple.Table.{entered, cited}
 use denote.Triple.Walked.{says, Stays, stay-none, walkOf, goes-none, Walks, ends-at, walked, walk-meets}
 use denote.Exit.{yes}
 use denote.Triple.Clauses.{ensured, lasts}
-use Rattle.network_data.specs.Frame.{subIn}
+use Rattle.network_framing.specs.Frame.{subIn}
 use Rattle.network_walker.specs.declared.NetworkDataTlvIter.{NetworkDataTlvIter}
-use Rattle.network_data.specs.declared.SubTlv.{SubTlv}
+use Rattle.network_framing.specs.declared.SubTlv.{SubTlv}
 use Rattle.network_walker.proofs.NetworkDataTlvIter as T
 use Rattle.network_walker.proofs.NetworkDataTlvIter.Laws as T′
-use Rattle.network_data.proofs.SubTlv as S
-use Rattle.network_data.proofs.SubTlv.Laws as S′
-use Rattle.network_data.proofs.sub_at as step
-use Rattle.network_data.proofs.sub_at.Symbol as step-def
-use Rattle.network_data.proofs.sub_at.Symbol.{name as #sub-at}
-use Rattle.network_data.proofs.sub_at.Met as step-thm
+use Rattle.network_framing.proofs.SubTlv as S
+use Rattle.network_framing.proofs.SubTlv.Laws as S′
+use Rattle.network_framing.proofs.sub_at as step
+use Rattle.network_framing.proofs.sub_at.Symbol as step-def
+use Rattle.network_framing.proofs.sub_at.Symbol.{name as #sub-at}
+use Rattle.network_framing.proofs.sub_at.Met as step-thm
 use Rattle.network_walker.proofs.NetworkDataTlvIter.item.Key.{name as #key}
 use Rattle.network_walker.proofs.NetworkDataTlvIter.item as item
 use Rattle.network_walker.proofs.NetworkDataTlvIter.item.Statement as stated
@@ -161,4 +161,4 @@ item-spec 𝓤 H 𝓜 𝓖 𝓡 =
     entered 𝓤 H (tripleOf 𝓤 H (𝓖 .A) item.signature (item.spec 𝓤 H (𝓖 .A) (𝓜 .mem) (𝓡 .run)))
     (tables 𝓤 H 𝓜 𝓡 code.env .C) (tables 𝓤 H 𝓜 𝓡 code.env .Λ) #key code.function (code.unfolded 𝓤 H 𝓜 𝓡)
     (item-meets 𝓤 H (𝓖 .A) (givenOf 𝓤 H 𝓜 𝓖) (𝓜 .mem) (𝓡 .run) (tablesOf 𝓤 H 𝓜 (tables 𝓤 H 𝓜 𝓡 code.env))
-    (cited 𝓤 H (StepAt 𝓤 H (𝓖 .A) (𝓜 .mem) (𝓡 .run)) 𝓜 𝓡 code.env #sub-at step-def.routine code.calls-network-data·sub-at (step-thm.met 𝓤 H 𝓜 𝓖 𝓡)))
+    (cited 𝓤 H (StepAt 𝓤 H (𝓖 .A) (𝓜 .mem) (𝓡 .run)) 𝓜 𝓡 code.env #sub-at step-def.routine code.calls-network-framing·sub-at (step-thm.met 𝓤 H 𝓜 𝓖 𝓡)))

@@ -1,7 +1,7 @@
 -- `network_walker::framing::rest_of` meets its contract: what follows the first TLV, or no bytes. Assumes nothing.
 use borrow.Author.Needs.{needs}
 use native.Mathlib.Omega.{arith}
-use Rattle.network_data.proofs.Walks.{turn-inside}
+use Rattle.network_framing.proofs.Walks.{turn-inside}
 use Rattle.network_walker.proofs.Rests.{rest-item, rest-none}
 use Rattle.network_walker.proofs.framing.rest_of.Statement.{statement}
 use Rattle.network_walker.proofs.framing.rest_of.Tie as tie

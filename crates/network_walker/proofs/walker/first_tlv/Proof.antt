@@ -37,13 +37,13 @@ use denote.Triple.Table.{entered, cited}
 use denote.Triple.Walked.{says, Stays, stay-none-slice, walkOf, goes-none-slice, Walks, ends-at, walked, walk-meets}
 use denote.Exit.{yes}
 use denote.Triple.Clauses.{ensured, lasts}
-use Rattle.network_data.specs.Frame.{subIn}
+use Rattle.network_framing.specs.Frame.{subIn}
 use Rattle.network_walker.specs.declared.NetworkDataTlvIter.{NetworkDataTlvIter}
-use Rattle.network_data.specs.declared.SubTlv.{SubTlv}
+use Rattle.network_framing.specs.declared.SubTlv.{SubTlv}
 use Rattle.network_walker.proofs.NetworkDataTlvIter as T
 use Rattle.network_walker.proofs.NetworkDataTlvIter.Laws as T′
-use Rattle.network_data.proofs.SubTlv as S
-use Rattle.network_data.proofs.SubTlv.Laws as S′
+use Rattle.network_framing.proofs.SubTlv as S
+use Rattle.network_framing.proofs.SubTlv.Laws as S′
 use Rattle.network_walker.proofs.NetworkDataTlvIter.new as new
 use Rattle.network_walker.proofs.NetworkDataTlvIter.new.Symbol as new-def
 use Rattle.network_walker.proofs.NetworkDataTlvIter.new.Symbol.{name as #new}

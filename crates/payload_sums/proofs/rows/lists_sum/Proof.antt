@@ -10,7 +10,7 @@ use Rattle.tlv.specs.Entries.{Framing}
 use Rattle.tlv.specs.Answers.{foundAnswer}
 use Rattle.tlv.proofs.Walks.{from, from-start}
 use Rattle.diag_entries.specs.Parts.{allOf}
-use Rattle.diag_entries.proofs.Lists.{follows, none-left}
+use Rattle.child_lists.proofs.Lists.{follows, none-left}
 use Rattle.payload_sums.specs.Rows.{listsOnto, lists}
 use Rattle.payload_sums.proofs.Rowed.{lists-more, lists-done}
 use borrow.Author.Needs.{needs}

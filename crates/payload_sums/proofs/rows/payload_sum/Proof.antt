@@ -1,7 +1,7 @@
 -- `payload_sums::rows::payload_sum` meets its contract.
 -- Assumes nothing.
 use mathlib.Core.Path.{_∙_, refl}
-use Rattle.diag_rows.specs.Routes.{routeOf}
+use Rattle.route64.specs.Routes.{routeOf}
 use Rattle.diag_rows.specs.Rows.{childRows, addresses}
 use Rattle.diag.specs.Answers.{optPart, diagOf}
 use Rattle.payload_sums.specs.Rows.{routes, children, addressesSum, payloadSum}

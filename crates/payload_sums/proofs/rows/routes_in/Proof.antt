@@ -1,7 +1,7 @@
 -- `payload_sums::rows::routes_in` meets its contract.
 -- Assumes nothing.
 use Rattle.payload_sums.specs.Rows.{route64Sum}
-use Rattle.diag_rows.specs.Routes.{RouteRead}
+use Rattle.route64.specs.Routes.{RouteRead}
 use Rattle.payload_sums.proofs.Rowed.{held}
 use mathlib.Core.Path.{ap, _∙_}
 use native.Mathlib.Omega.{arith}

@@ -6,7 +6,7 @@ use native.Mathlib.Omega.{arith}
 use lib.ListN.{getD}
 use Rattle.payload_sums.specs.Rows.{summed, routeSum}
 use Rattle.payload_sums.proofs.Rowed.{summed-more, summed-done}
-use Rattle.diag_rows.specs.Routes.{routeRow}
+use Rattle.route64.specs.Routes.{routeRow}
 use borrow.Author.Needs.{needs}
 use Rattle.payload_sums.proofs.rows.routes_sum.Statement.{statement}
 use Rattle.payload_sums.proofs.rows.routes_sum.Tie as tie

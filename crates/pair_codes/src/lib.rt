@@ -1,0 +1,41 @@
+// What is said of a row of a child table that is paired with the address lists, and the number that stands for it in an output.
+ghost use mathlib.Core.Path.{_≡_};
+ghost use Rattle.pair_codes.specs.Codes.{codeOf, meant};
+
+// In an output of numbers a pair is the number of its list; these stand for the other two answers.
+pub const CODE_NONE: u16 = 65535;
+
+pub const CODE_UNCLEAR: u16 = 65534;
+
+// What is said of a row of the child table: it is paired with the address list of that number, from 0; it has none; or that is unclear.
+pub enum Pairing {
+    Paired(u16),
+    None,
+    Unclear,
+}
+
+impl Pairing {
+    // The number that stands for it in an output.
+    pub fn code(self) -> u16
+        ensures { λ r. ⌜ r ≡ codeOf self ⌝ }
+    {
+        match self {
+            Pairing::Paired(list) => list,
+            Pairing::None => CODE_NONE,
+            Pairing::Unclear => CODE_UNCLEAR,
+        }
+    }
+
+    // What a number of an output says.
+    pub fn from_code(code: u16) -> Pairing
+        ensures { λ r. ⌜ r ≡ meant code ⌝ }
+    {
+        if code == CODE_NONE {
+            return Pairing::None;
+        }
+        if code == CODE_UNCLEAR {
+            return Pairing::Unclear;
+        }
+        Pairing::Paired(code)
+    }
+}
