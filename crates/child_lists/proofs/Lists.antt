@@ -17,12 +17,12 @@ use Rattle.laws.proofs.Tests.{by-test, pick-all}
 use Rattle.laws.proofs.Parts.{length-part}
 use Rattle.tlv.specs.Entries.{Entry, entry, Framing, framing}
 use Rattle.tlv.specs.Place.{frameAt}
-use Rattle.tlv.specs.Last.{Spot, spotAt, spot}
-use Rattle.tlv.specs.Answers.{foundAnswer}
+use Rattle.tlv_last.specs.Last.{Spot, spotAt, spot}
+use Rattle.tlv_last.specs.Answers.{foundAnswer}
 use Rattle.tlv.proofs.Walks.{from, turn-entries, turn-inside, turn-end, turn-cut, framing-lies}
-use Rattle.tlv.proofs.Found
-use Rattle.tlv.specs.declared.Found.{Found}
-use Rattle.tlv.specs.declared.Found.the-variants as d
+use Rattle.tlv_last.proofs.Found
+use Rattle.tlv_last.specs.declared.Found.{Found}
+use Rattle.tlv_last.specs.declared.Found.the-variants as d
 use Rattle.tlv.specs.declared.Frame.{Frame}
 use Rattle.tlv.specs.declared.Frame.the-variants as f
 use Rattle.refusal.specs.Numbered.{nth}

@@ -1,4 +1,4 @@
--- What a query learns of `tlv::last_entry`, by its answer: the entry that was found, whose value is a part of the input, that there is none,
+-- What a query learns of `tlv_last::last_entry`, by its answer: the entry that was found, whose value is a part of the input, that there is none,
 -- or the refusal.
 -- Assumes nothing.
 use mathlib.Core.Path.{_≡_, refl, sym, ap, _∙_}
@@ -11,11 +11,11 @@ use Rattle.refusal.specs.Number.{refusalAnswer}
 use Rattle.refusal.specs.declared.Refusal.{Refusal}
 use Rattle.wire.specs.Be.{ruled}
 use Rattle.tlv.specs.Entries.{Entry, entry}
-use Rattle.tlv.specs.Last.{lastEntry, Spot, spotAt, spot, lastSpot, valueOr, lastValue}
-use Rattle.tlv.specs.Answers.{foundAnswer}
-use Rattle.tlv.specs.declared.Found.{Found}
-use Rattle.tlv.specs.declared.Found.the-variants as f
-use Rattle.tlv.proofs.Lasts.{spot-part}
+use Rattle.tlv_last.specs.Last.{lastEntry, Spot, spotAt, spot, lastSpot, valueOr, lastValue}
+use Rattle.tlv_last.specs.Answers.{foundAnswer}
+use Rattle.tlv_last.specs.declared.Found.{Found}
+use Rattle.tlv_last.specs.declared.Found.the-variants as f
+use Rattle.tlv_last.proofs.Lasts.{spot-part}
 use Rattle.laws.proofs.Answers.{on-itself}
 use Rattle.dataset.specs.Queries.{rules, lengthIn, query}
 

@@ -6,7 +6,7 @@ use lib.Dec.{eqb}
 use Rattle.refusal.specs.Answer.{pick, Answer, thenDo, onGiven}
 use Rattle.wire.specs.Be.{ruled}
 use Rattle.tlv.specs.Entries.{Entry}
-use Rattle.tlv.specs.Last.{lastEntry}
+use Rattle.tlv_last.specs.Last.{lastEntry}
 
 -- a type, and the length that its value must have
 pub record Rule : Type 0 where

@@ -6,7 +6,7 @@ use plain_values::read_array_8;
 use plain_values::read_array_16;
 use timestamps::ReadTimestamp;
 use timestamps::Timestamp;
-use tlv::Found;
+use tlv_last::Found;
 use values::Channel;
 use values::ReadChannel;
 use values::ReadPolicy;
@@ -44,7 +44,7 @@ pub const TLV_DELAY_TIMER: u8 = 0x34;
 pub fn channel(s: &[u8]) -> ReadChannel
     ensures { λ r. ⌜ channelAnswer r ≡ query 0 channelOf (now (s .entry)) ⌝ }
 {
-    match tlv::last_entry(s, TLV_CHANNEL, 0) {
+    match tlv_last::last_entry(s, TLV_CHANNEL, 0) {
         Found::At { place, start, len } => Channel::parse(&s[start..start + len], place),
         Found::Absent => ReadChannel::Absent,
         Found::Refused(r) => ReadChannel::Refused(r),
@@ -54,7 +54,7 @@ pub fn channel(s: &[u8]) -> ReadChannel
 pub fn pan_id(s: &[u8]) -> Read16
     ensures { λ r. ⌜ answer16 r ≡ query 1 be (now (s .entry)) ⌝ }
 {
-    match tlv::last_entry(s, TLV_PAN_ID, 0) {
+    match tlv_last::last_entry(s, TLV_PAN_ID, 0) {
         Found::At { place, start, len } => wire::read_u16(&s[start..start + len], place),
         Found::Absent => Read16::Absent,
         Found::Refused(r) => Read16::Refused(r),
@@ -64,7 +64,7 @@ pub fn pan_id(s: &[u8]) -> Read16
 pub fn delay_timer(s: &[u8]) -> Read32
     ensures { λ r. ⌜ answer32 r ≡ query 52 be (now (s .entry)) ⌝ }
 {
-    match tlv::last_entry(s, TLV_DELAY_TIMER, 0) {
+    match tlv_last::last_entry(s, TLV_DELAY_TIMER, 0) {
         Found::At { place, start, len } => wire::read_u32(&s[start..start + len], place),
         Found::Absent => Read32::Absent,
         Found::Refused(r) => Read32::Refused(r),
@@ -76,7 +76,7 @@ fn timestamp(s: &[u8], ty: u8) -> ReadTimestamp
     requires { ⌜ lengthIn rules ty ≡ 8 ⌝ }
     ensures { λ r. ⌜ timestampAnswer r ≡ query ty timestampOf (now (s .entry)) ⌝ }
 {
-    match tlv::last_entry(s, ty, 0) {
+    match tlv_last::last_entry(s, ty, 0) {
         Found::At { place, start, len } => Timestamp::parse(&s[start..start + len], place),
         Found::Absent => ReadTimestamp::Absent,
         Found::Refused(r) => ReadTimestamp::Refused(r),
@@ -98,7 +98,7 @@ pub fn pending_timestamp(s: &[u8]) -> ReadTimestamp
 pub fn security_policy(s: &[u8]) -> ReadPolicy
     ensures { λ r. ⌜ policyAnswer r ≡ query 12 policyOf (now (s .entry)) ⌝ }
 {
-    match tlv::last_entry(s, TLV_SECURITY_POLICY, 0) {
+    match tlv_last::last_entry(s, TLV_SECURITY_POLICY, 0) {
         Found::At { place, start, len } => SecurityPolicy::parse(&s[start..start + len], place),
         Found::Absent => ReadPolicy::Absent,
         Found::Refused(r) => ReadPolicy::Refused(r),
@@ -110,7 +110,7 @@ fn array_8(s: &[u8], ty: u8) -> Array8
     requires { ⌜ lengthIn rules ty ≡ 8 ⌝ }
     ensures { λ r. ⌜ copy8 r ≡ copied 8 (query ty (λ (v : List ℕ). v) (now (s .entry))) ⌝ }
 {
-    match tlv::last_entry(s, ty, 0) {
+    match tlv_last::last_entry(s, ty, 0) {
         Found::At { place, start, len } => read_array_8(&s[start..start + len], place),
         Found::Absent => Array8 {
             answer: Checked::Absent,
@@ -138,7 +138,7 @@ pub fn mesh_local_prefix(s: &[u8]) -> Array8
 pub fn network_key(s: &[u8]) -> Array16
     ensures { λ r. ⌜ copy16 r ≡ copied 16 (query 5 (λ (v : List ℕ). v) (now (s .entry))) ⌝ }
 {
-    match tlv::last_entry(s, TLV_NETWORK_KEY, 0) {
+    match tlv_last::last_entry(s, TLV_NETWORK_KEY, 0) {
         Found::At { place, start, len } => read_array_16(&s[start..start + len], place),
         Found::Absent => Array16 {
             answer: Checked::Absent,

@@ -15,7 +15,7 @@ use Rattle.laws.proofs.Tests.{by-test}
 use Rattle.refusal.specs.Every.{Bytes}
 use Rattle.tlv.specs.Entries.{Entry, Content, content, contents}
 use Rattle.tlv.specs.Limits.{framed}
-use Rattle.tlv.specs.Last.{lastOf, lastEntry, valueOr, lastValue}
+use Rattle.tlv_last.specs.Last.{lastOf, lastEntry, valueOr, lastValue}
 use Rattle.tlv_writing.specs.Encode.{encodeAll, sized}
 use Rattle.tlv_rewriting.specs.Rewrite.{keepsOf, kept, rewritten, setLast, withSet}
 use Rattle.tlv_rewriting.specs.declared.Choice.{Choice}

@@ -14,12 +14,12 @@ use Rattle.refusal.specs.Answer.{Answer, given, absent, refused, thenDo, onGive
 use Rattle.refusal.specs.Number.{refusalAnswer}
 use Rattle.refusal.specs.declared.Refusal.{Refusal}
 use Rattle.tlv.specs.Entries.{Entry, entry}
-use Rattle.tlv.specs.Last.{lastEntry, spotAt, spot, lastSpot, valueOr, lastValue}
-use Rattle.tlv.specs.Answers.{foundAnswer}
-use Rattle.tlv.specs.declared.Found.{Found}
-use Rattle.tlv.specs.declared.Found.the-variants as f
-use Rattle.tlv.proofs.Found
-use Rattle.tlv.proofs.Lasts.{spot-part}
+use Rattle.tlv_last.specs.Last.{lastEntry, spotAt, spot, lastSpot, valueOr, lastValue}
+use Rattle.tlv_last.specs.Answers.{foundAnswer}
+use Rattle.tlv_last.specs.declared.Found.{Found}
+use Rattle.tlv_last.specs.declared.Found.the-variants as f
+use Rattle.tlv_last.proofs.Found
+use Rattle.tlv_last.proofs.Lasts.{spot-part}
 use Rattle.channel_masks.specs.Mask.{items, maskAnswer}
 use Rattle.channel_masks.specs.declared.ReadMask.{ReadMask}
 use Rattle.channel_masks.specs.declared.ReadMask.the-variants as m

@@ -6,7 +6,7 @@ use mathlib.Core.List.{List}
 use lib.ListN.{length}
 use Rattle.refusal.specs.Answer.{Answer, thenDo, onGiven}
 use Rattle.tlv.specs.Entries.{Entry}
-use Rattle.tlv.specs.Last.{lastEntry}
+use Rattle.tlv_last.specs.Last.{lastEntry}
 use Rattle.channel_masks.specs.Mask.{items, Masked}
 use Rattle.plain_values.specs.Plain.{nameAt}
 

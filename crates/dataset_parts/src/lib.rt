@@ -2,11 +2,11 @@
 use channel_masks::ReadMask;
 use plain_values::Checked;
 use plain_values::check_name;
-use tlv::Found;
+use tlv_last::Found;
 ghost use mathlib.Core.Path.{_≡_};
 ghost use Rattle.refusal.specs.Answer.{onGiven};
-ghost use Rattle.tlv.specs.Last.{spot, valueOr};
-ghost use Rattle.tlv.specs.Answers.{foundAnswer};
+ghost use Rattle.tlv_last.specs.Last.{spot, valueOr};
+ghost use Rattle.tlv_last.specs.Answers.{foundAnswer};
 ghost use Rattle.channel_masks.specs.Mask.{maskAnswer};
 ghost use Rattle.dataset_parts.specs.Parts.{nameEntry, maskEntry, maskCount};
 
@@ -18,7 +18,7 @@ pub const TLV_CHANNEL_MASK: u8 = 0x35;
 pub fn network_name(s: &[u8]) -> Found
     ensures { λ r. ⌜ foundAnswer r ≡ onGiven spot (nameEntry (now (s .entry))) ⌝ }
 {
-    match tlv::last_entry(s, TLV_NETWORK_NAME, 0) {
+    match tlv_last::last_entry(s, TLV_NETWORK_NAME, 0) {
         Found::At { place, start, len } => {
             let end = start + len;
             match check_name(&s[start..end], place) {
@@ -53,7 +53,7 @@ pub fn network_name_value<'a>(s: &'a [u8]) -> &'a [u8]
 pub fn channel_mask(s: &[u8]) -> ReadMask
     ensures { λ r. ⌜ maskAnswer r ≡ maskCount (now (s .entry)) ⌝ }
 {
-    match tlv::last_entry(s, TLV_CHANNEL_MASK, 0) {
+    match tlv_last::last_entry(s, TLV_CHANNEL_MASK, 0) {
         Found::At { place, start, len } => channel_masks::count_mask_items(
             &s[start..start + len],
             place,
@@ -68,7 +68,7 @@ pub fn channel_mask_value<'a>(s: &'a [u8]) -> &'a [u8]
     ensures { λ r. ⌜ now r ≡ valueOr (maskEntry (now (s .entry))) ⌝ }
 {
     match channel_mask(s) {
-        ReadMask::Items(_) => tlv::last_value(s, TLV_CHANNEL_MASK),
+        ReadMask::Items(_) => tlv_last::last_value(s, TLV_CHANNEL_MASK),
         _ => &s[..0],
     }
 }

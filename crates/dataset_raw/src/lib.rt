@@ -1,8 +1,8 @@
 // A dataset (dataset.rs): the last value of a type as it is, and the PSKc, which has no rule of its own.
-use tlv::Found;
+use tlv_last::Found;
 ghost use mathlib.Core.Path.{_≡_};
-ghost use Rattle.tlv.specs.Last.{lastSpot, lastValue};
-ghost use Rattle.tlv.specs.Answers.{foundAnswer};
+ghost use Rattle.tlv_last.specs.Last.{lastSpot, lastValue};
+ghost use Rattle.tlv_last.specs.Answers.{foundAnswer};
 
 pub const TLV_PSKC: u8 = 0x04;
 
@@ -10,25 +10,25 @@ pub const TLV_PSKC: u8 = 0x04;
 pub fn raw(s: &[u8], ty: u8) -> Found
     ensures { λ r. ⌜ foundAnswer r ≡ lastSpot ty 0 (now (s .entry)) ⌝ }
 {
-    tlv::last_entry(s, ty, 0)
+    tlv_last::last_entry(s, ty, 0)
 }
 
 // Its value, as a part of s; no bytes where there is none (`raw` tells which).
 pub fn raw_value<'a>(s: &'a [u8], ty: u8) -> &'a [u8]
     ensures { λ r. ⌜ now r ≡ lastValue ty (now (s .entry)) ⌝ }
 {
-    tlv::last_value(s, ty)
+    tlv_last::last_value(s, ty)
 }
 
 // Where the PSKc lies. Refusals: 1, 2, 3.
 pub fn pskc(s: &[u8]) -> Found
     ensures { λ r. ⌜ foundAnswer r ≡ lastSpot 4 0 (now (s .entry)) ⌝ }
 {
-    tlv::last_entry(s, TLV_PSKC, 0)
+    tlv_last::last_entry(s, TLV_PSKC, 0)
 }
 
 pub fn pskc_value<'a>(s: &'a [u8]) -> &'a [u8]
     ensures { λ r. ⌜ now r ≡ lastValue 4 (now (s .entry)) ⌝ }
 {
-    tlv::last_value(s, TLV_PSKC)
+    tlv_last::last_value(s, TLV_PSKC)
 }

@@ -11,9 +11,9 @@ use texts::put_refusal;
 use texts::put_text;
 use texts::put_three;
 use tlv::Counted;
-use tlv::Found;
 use tlv::Frame;
 use tlv::Parsed;
+use tlv_last::Found;
 
 // An entry: type, place of its first byte, header size and length.
 fn put_entry(text: &mut Room, at: usize, ty: u8, place: usize, header: usize, len: usize) -> usize {
@@ -59,12 +59,12 @@ fn put_part(text: &mut Room, at: usize, part: &[u8], start: usize) -> usize {
 
 // The place is that of the entry that was found, the bytes are the part that was handed back.
 fn put_raw(text: &mut Room, at: usize, ty: u8, s: &[u8]) -> usize {
-    match tlv::last_entry(s, ty, 0) {
+    match tlv_last::last_entry(s, ty, 0) {
         Found::At {
             place: _,
             start,
             len: _,
-        } => put_part(text, at, tlv::last_value(s, ty), start),
+        } => put_part(text, at, tlv_last::last_value(s, ty), start),
         Found::Absent => put_text(text, at, b"absent"),
         Found::Refused(r) => put_refusal(text, at, r),
     }

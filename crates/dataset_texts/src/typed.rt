@@ -11,7 +11,7 @@ use texts::put_three;
 use texts::put_two;
 use timestamps::ReadTimestamp;
 use timestamps::Timestamp;
-use tlv::Found;
+use tlv_last::Found;
 use values::ReadChannel;
 use values::ReadPolicy;
 use wire::Read16;

@@ -16,11 +16,11 @@ use Rattle.wire.specs.declared.Read16.the-variants as v16
 use Rattle.wire.proofs.Read32
 use Rattle.wire.specs.declared.Read32.{Read32}
 use Rattle.wire.specs.declared.Read32.the-variants as v32
-use Rattle.tlv.specs.Last.{Spot, spotAt}
-use Rattle.tlv.specs.Answers.{foundAnswer}
-use Rattle.tlv.proofs.Found
-use Rattle.tlv.specs.declared.Found.{Found}
-use Rattle.tlv.specs.declared.Found.the-variants as f
+use Rattle.tlv_last.specs.Last.{Spot, spotAt}
+use Rattle.tlv_last.specs.Answers.{foundAnswer}
+use Rattle.tlv_last.proofs.Found
+use Rattle.tlv_last.specs.declared.Found.{Found}
+use Rattle.tlv_last.specs.declared.Found.the-variants as f
 use Rattle.network_data.specs.Decode.{Prefix, contents, countsOf, decodeNetworkData}
 use Rattle.network_data.specs.declared.Counts.{Counts}
 use Rattle.diag_rules.specs.Rule.{keepsRule, valueOf}

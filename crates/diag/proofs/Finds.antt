@@ -12,7 +12,7 @@ use borrow.Author.Tests.{eqb-true, eqb-false, ne-eqb}
 use Rattle.laws.proofs.Tests.{by-test}
 use Rattle.refusal.specs.Answer.{absent}
 use Rattle.tlv.specs.Entries.{Entry, entry, framing}
-use Rattle.tlv.proofs.Lasts.{lastSpotOf, last-hit, last-miss, last-none}
+use Rattle.tlv_last.proofs.Lasts.{lastSpotOf, last-hit, last-miss, last-none}
 use Rattle.diag_entries.specs.Parts.{allOf}
 use Rattle.diag.specs.Loops.{spotIn, Located}
 use Rattle.diag.specs.declared.Places.{Places}

@@ -13,7 +13,7 @@ use Rattle.refusal.specs.Answer.{pick, Answer, given, absent, refused, thenDo, 
 use Rattle.refusal.specs.Every.{Every}
 use Rattle.laws.proofs.Tests.{by-test}
 use Rattle.tlv.specs.Entries.{Entry, framing}
-use Rattle.tlv.specs.Last.{lastOf}
+use Rattle.tlv_last.specs.Last.{lastOf}
 use Rattle.tlv.proofs.Walks.{Lies, framing-lies}
 use Rattle.diag_rules.specs.Rule.{keepsRule}
 use Rattle.diag_rules.proofs.Kept.{value-kept, other-kept}

@@ -12,7 +12,7 @@ use Rattle.refusal.specs.Every.{Every}
 use Rattle.laws.proofs.Tests.{pick-all}
 use Rattle.wire.specs.Be.{be}
 use Rattle.tlv.specs.Entries.{Entry, framing}
-use Rattle.tlv.specs.Last.{Spot, spot, lastOf}
+use Rattle.tlv_last.specs.Last.{Spot, spot, lastOf}
 use Rattle.tlv.proofs.Walks.{Lies, framing-lies}
 use Rattle.network_data.specs.Decode.{Prefix, contents, decodeNetworkData}
 use Rattle.network_data.proofs.Counted.{is-contents}

@@ -8,7 +8,7 @@ use lib.Dec.{eqb}
 use Rattle.refusal.specs.Answer.{pick, Answer, given, absent, refused, thenDo, onGiven}
 use Rattle.wire.specs.Be.{be}
 use Rattle.tlv.specs.Entries.{framing}
-use Rattle.tlv.specs.Last.{Spot, spotAt, spot}
+use Rattle.tlv_last.specs.Last.{Spot, spotAt, spot}
 use Rattle.network_data.specs.Decode.{Prefix, contents, countsOf, decodeNetworkData}
 use Rattle.diag_values.specs.Values.{modeValue, connectivityOf, leaderOf, countersOf}
 use Rattle.route64.specs.Routes.{routeOf}

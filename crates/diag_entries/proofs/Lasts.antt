@@ -10,8 +10,8 @@ use borrow.Author.Tests.{eq-eqb, ne-eqb}
 use Rattle.refusal.specs.Answer.{pick, Answer, given, absent, onGiven}
 use Rattle.refusal.specs.Every.{Every}
 use Rattle.tlv.specs.Entries.{Entry}
-use Rattle.tlv.specs.Last.{spot, lastOf}
-use Rattle.tlv.proofs.Lasts.{lastSpotOf}
+use Rattle.tlv_last.specs.Last.{spot, lastOf}
+use Rattle.tlv_last.proofs.Lasts.{lastSpotOf}
 use Rattle.diag_entries.specs.Parts.{last, allOf}
 
 module _ (ty : ℕ) (e : Entry) (es : List Entry) where

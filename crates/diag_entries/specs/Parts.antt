@@ -7,7 +7,7 @@ use lib.ListN.{length}
 use lib.Dec.{eqb}
 use Rattle.refusal.specs.Answer.{pick, Answer, absent, onGiven}
 use Rattle.tlv.specs.Entries.{Entry}
-use Rattle.tlv.specs.Last.{lastOf}
+use Rattle.tlv_last.specs.Last.{lastOf}
 
 -- all of es that have the type, in order
 unfoldable pub allOf : (ty : ℕ) → List Entry → List Entry

@@ -7,7 +7,7 @@ use native.Mathlib.Omega.{arith}
 use lib.ListN.{length, take, drop}
 use Rattle.refusal.specs.Answer.{Answer, given, absent, refused, onGiven}
 use Rattle.tlv.specs.Entries.{Entry, framing}
-use Rattle.tlv.specs.Last.{Spot}
+use Rattle.tlv_last.specs.Last.{Spot}
 use Rattle.network_data.specs.Decode.{Prefix, contents, countsOf, decodeNetworkData}
 use Rattle.network_data.proofs.Counted.{is-contents}
 use Rattle.network_data.proofs.Anywhere.{given-anywhere}

@@ -11,10 +11,10 @@ use Rattle.diag_entries.specs.Parts.{allOf}
 use Rattle.diag_rows.specs.declared.ReadAddressList.{ReadAddressList}
 use Rattle.refusal.specs.Answer.{onGiven}
 use Rattle.refusal.specs.Numbered.{nth}
-use Rattle.tlv.proofs.Papers.{found-tells}
-use Rattle.tlv.specs.Answers.{foundAnswer}
-use Rattle.tlv.specs.Last.{spot}
-use Rattle.tlv.specs.declared.Found.{Found}
+use Rattle.tlv_last.proofs.Papers.{found-tells}
+use Rattle.tlv_last.specs.Answers.{foundAnswer}
+use Rattle.tlv_last.specs.Last.{spot}
+use Rattle.tlv_last.specs.declared.Found.{Found}
 use Rattle.one_answer.specs.One.{One}
 use Rattle.one_answer.proofs.General.{one}
 

@@ -16,10 +16,10 @@ use Rattle.refusal.specs.Answer.{onGiven}
 use Rattle.timestamps.proofs.Papers.{timestamp-tells}
 use Rattle.timestamps.specs.Timestamps.{timestampAnswer, timestampOf}
 use Rattle.timestamps.specs.declared.ReadTimestamp.{ReadTimestamp}
-use Rattle.tlv.proofs.Papers.{found-tells}
-use Rattle.tlv.specs.Answers.{foundAnswer}
-use Rattle.tlv.specs.Last.{lastSpot, lastValue, spot, valueOr}
-use Rattle.tlv.specs.declared.Found.{Found}
+use Rattle.tlv_last.proofs.Papers.{found-tells}
+use Rattle.tlv_last.specs.Answers.{foundAnswer}
+use Rattle.tlv_last.specs.Last.{lastSpot, lastValue, spot, valueOr}
+use Rattle.tlv_last.specs.declared.Found.{Found}
 use Rattle.values.proofs.Papers.{channel-tells, policy-tells}
 use Rattle.values.specs.Typed.{channelAnswer, channelOf, policyAnswer, policyOf}
 use Rattle.values.specs.declared.ReadChannel.{ReadChannel}

@@ -3,14 +3,16 @@
 use mathlib.Core.List.{List}
 use mathlib.Core.Path.{_≡_}
 use Prim.Native.Nat.{ℕ}
-use Rattle.tlv.proofs.Papers.{counted-tells, found-tells, parsed-tells}
-use Rattle.tlv.specs.Answers.{countedAnswer, foundAnswer, headOf, parsedAnswer}
+use Rattle.tlv.proofs.Papers.{counted-tells, parsed-tells}
+use Rattle.tlv_last.proofs.Papers.{found-tells}
+use Rattle.tlv.specs.Answers.{countedAnswer, headOf, parsedAnswer}
+use Rattle.tlv_last.specs.Answers.{foundAnswer}
 use Rattle.tlv.specs.Entries.{first}
-use Rattle.tlv.specs.Last.{lastSpot, lastValue}
+use Rattle.tlv_last.specs.Last.{lastSpot, lastValue}
 use Rattle.tlv.specs.Limits.{count}
 use Rattle.tlv.specs.Place.{frameAt}
 use Rattle.tlv.specs.declared.Counted.{Counted}
-use Rattle.tlv.specs.declared.Found.{Found}
+use Rattle.tlv_last.specs.declared.Found.{Found}
 use Rattle.tlv.specs.declared.Frame.{Frame}
 use Rattle.tlv.specs.declared.Parsed.{Parsed}
 use Rattle.one_answer.proofs.General.{one, one-itself}
@@ -28,10 +30,10 @@ parse-one s = one parsedAnswer parsed-tells _
 pub count-entries : (s : List ℕ) (input : ℕ) → One (λ (r : Counted). countedAnswer r ≡ count input s)
 count-entries s input = one countedAnswer counted-tells _
 
--- tlv::last_entry
+-- tlv_last::last_entry
 pub last-entry : (s : List ℕ) (ty : ℕ) (input : ℕ) → One (λ (r : Found). foundAnswer r ≡ lastSpot ty input s)
 last-entry s ty input = one foundAnswer found-tells _
 
--- tlv::last_value
+-- tlv_last::last_value
 pub last-value : (s : List ℕ) (ty : ℕ) → One (λ (r : List ℕ). r ≡ lastValue ty s)
 last-value s ty = one-itself _

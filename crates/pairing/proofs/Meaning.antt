@@ -9,7 +9,7 @@ use lib.ListN.{length, length-map}
 use borrow.Author.Tests.{ne-eqb}
 use Rattle.refusal.specs.Answer.{pick, Answer, given, absent, refused, onGiven}
 use Rattle.tlv.specs.Entries.{Entry}
-use Rattle.tlv.specs.Last.{lastOf, valueOr}
+use Rattle.tlv_last.specs.Last.{lastOf, valueOr}
 use Rattle.refusal.specs.Numbered.{nth}
 use Rattle.diag_rows.specs.Rows.{listed, childRows, addressListOf}
 use Rattle.diag_entries.specs.Parts.{last, allOf}

@@ -15,7 +15,7 @@ use Rattle.laws.proofs.Tests.{by-test}
 use Rattle.tlv.specs.Entries.{Entry, framing}
 use Rattle.tlv.specs.Limits.{framed, count}
 use Rattle.tlv.proofs.Tally.{Only, only, counted-short}
-use Rattle.tlv.specs.Last.{lastOf, lastEntry, valueOr, lastValue}
+use Rattle.tlv_last.specs.Last.{lastOf, lastEntry, valueOr, lastValue}
 use Rattle.diag_rules.specs.Rule.{keepsRule, valueOf}
 use Rattle.refusal.specs.Numbered.{nth}
 use Rattle.diag_rows.specs.Rows.{childAt, childRows, addressListOf}

@@ -4,7 +4,7 @@ use Prim.Native.Nat.{ℕ}
 use mathlib.Core.List.{List, map}
 use Rattle.refusal.specs.Answer.{Answer, thenDo, onGiven}
 use Rattle.tlv.specs.Entries.{Entry}
-use Rattle.tlv.specs.Last.{valueOr}
+use Rattle.tlv_last.specs.Last.{valueOr}
 use Rattle.refusal.specs.Numbered.{nth}
 use Rattle.diag_rows.specs.Rows.{childRows}
 use Rattle.diag_rows.specs.declared.ChildTableEntry.{ChildTableEntry}

@@ -145,7 +145,7 @@ pub fn pair(payload: &[u8], out: &mut [u16]) -> Answered
         }
         Counted::Entries(_) => {}
     }
-    let table = tlv::last_value(payload, diag_rules::CHILD_TABLE);
+    let table = tlv_last::last_value(payload, diag_rules::CHILD_TABLE);
     let n = table.len() / 3;
     if n > out.len() {
         return Answered::Refused(Refusal {
@@ -168,7 +168,7 @@ pub fn pair_row(payload: &[u8], k: usize) -> ReadPairing
         }
         Counted::Entries(_) => {}
     }
-    let table = tlv::last_value(payload, diag_rules::CHILD_TABLE);
+    let table = tlv_last::last_value(payload, diag_rules::CHILD_TABLE);
     if k >= table.len() / 3 {
         return ReadPairing::Absent;
     }

@@ -10,7 +10,7 @@ use diag_rows::ReadAddressList;
 use diag_rows::ReadChild;
 use route64::Route64;
 use route64::RouteDataEntry;
-use tlv::Found;
+use tlv_last::Found;
 ghost use mathlib.Core.Path.{_≡_};
 ghost use Rattle.diag.specs.Diag.{decode};
 ghost use Rattle.diag.specs.Answers.{optPart, diagOf};

@@ -13,7 +13,7 @@ ghost use lib.ListN.{length};
 ghost use Rattle.refusal.specs.Answer.{given, onGiven};
 ghost use Rattle.refusal.specs.Output.{emit, writtenAnswer};
 ghost use Rattle.tlv.specs.Limits.{count};
-ghost use Rattle.tlv.specs.Last.{lastValue};
+ghost use Rattle.tlv_last.specs.Last.{lastValue};
 ghost use Rattle.tlv_rewriting.specs.Rewrite.{rewritten};
 ghost use Rattle.tlv_rewriting.specs.declared.Choice.the-variants.{All};
 ghost use Rattle.base16.specs.Base16.{decoded, hexText};
@@ -56,7 +56,7 @@ pub extern "C" fn speed_count(s: &[u8]) -> u64
 pub extern "C" fn speed_last(s: &[u8], ty: u8) -> u64
     ensures { λ r. ⌜ r ≡ length (lastValue ty (now (s .entry))) ⌝ }
 {
-    tlv::last_value(s, ty).len() as u64
+    tlv_last::last_value(s, ty).len() as u64
 }
 
 #[no_mangle]

@@ -2,20 +2,13 @@
 -- Assumes nothing.
 use mathlib.Core.Path.{refl, ap}
 use Rattle.refusal.proofs.Papers.{Tells, tells, refusal-back, codeOf}
-use Rattle.tlv.specs.Last.{Spot}
-use Rattle.tlv.specs.Answers.{countedAnswer, foundAnswer, Head, parsedAnswer}
+use Rattle.tlv.specs.Answers.{countedAnswer, Head, parsedAnswer}
 use Rattle.tlv.specs.declared.Counted.the-variants as c
-use Rattle.tlv.specs.declared.Found.the-variants as f
 use Rattle.tlv.specs.declared.Parsed.the-variants as p
 
 pub counted-tells : Tells countedAnswer
 counted-tells =
     tells countedAnswer (codeOf c.Entries (c.Entries 0) c.Refused) (elim [ c.Entries n ↦ refl | c.Refused r ↦ ap c.Refused (refusal-back r) ])
-
-pub found-tells : Tells foundAnswer
-found-tells =
-    tells foundAnswer (codeOf (λ (x : Spot). f.At (x .place) (x .start) (x .len)) f.Absent f.Refused)
-    (elim [ f.At p a n ↦ refl | f.Absent ↦ refl | f.Refused r ↦ ap f.Refused (refusal-back r) ])
 
 pub parsed-tells : Tells parsedAnswer
 parsed-tells =

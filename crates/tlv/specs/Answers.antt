@@ -2,25 +2,17 @@
 -- Assumes nothing.
 use Prim.Native.Nat.{ℕ}
 use lib.ListN.{length}
-use Rattle.refusal.specs.Answer.{Answer, given, absent, refused}
+use Rattle.refusal.specs.Answer.{Answer, given, refused}
 use Rattle.refusal.specs.Number.{refusalAnswer}
 use Rattle.tlv.specs.Entries.{First, none, cut, one}
-use Rattle.tlv.specs.Last.{Spot, spotAt}
 use Rattle.tlv.specs.declared.Counted.{Counted}
 use Rattle.tlv.specs.declared.Counted.the-variants as c
-use Rattle.tlv.specs.declared.Found.{Found}
-use Rattle.tlv.specs.declared.Found.the-variants as f
 use Rattle.tlv.specs.declared.Parsed.{Parsed}
 use Rattle.tlv.specs.declared.Parsed.the-variants as p
 
 abbrev pub countedAnswer : Counted → Answer ℕ
 countedAnswer (c.Entries n) = given n
 countedAnswer (c.Refused r) = refusalAnswer r
-
-abbrev pub foundAnswer : Found → Answer Spot
-foundAnswer (f.At p a n) = given (spotAt p a n)
-foundAnswer f.Absent = absent
-foundAnswer (f.Refused r) = refusalAnswer r
 
 -- the first entry by itself: its type, the size of its header, the length of its value
 pub record Head : Type 0 where

@@ -1,12 +1,11 @@
-// Entries of a type byte, a length and a value (tlv.rs): framing, and the last value of a type.
+// Entries of a type byte, a length and a value (tlv.rs): framing.
 use refusal::Fault;
 use refusal::Refusal;
 ghost use mathlib.Core.Path.{_≡_};
 ghost use Rattle.tlv.specs.Entries.{first};
 ghost use Rattle.tlv.specs.Limits.{count};
-ghost use Rattle.tlv.specs.Last.{lastSpot, lastValue};
 ghost use Rattle.tlv.specs.Place.{frameAt};
-ghost use Rattle.tlv.specs.Answers.{countedAnswer, foundAnswer, parsedAnswer, headOf};
+ghost use Rattle.tlv.specs.Answers.{countedAnswer, parsedAnswer, headOf};
 
 // The longest value under a short header, the length byte that announces a long one, and the longest value of all.
 pub const MAX_STANDARD_TLV_LENGTH: usize = 254;
@@ -30,17 +29,6 @@ pub enum Parsed {
 
 pub enum Counted {
     Entries(usize),
-    Refused(Refusal),
-}
-
-// Where the entry that was asked for lies: its first byte, its value's first byte, its value's length.
-pub enum Found {
-    At {
-        place: usize,
-        start: usize,
-        len: usize,
-    },
-    Absent,
     Refused(Refusal),
 }
 
@@ -140,50 +128,5 @@ pub fn count_entries(s: &[u8], input: u8) -> Counted
                 at = start + len;
             }
         }
-    }
-}
-
-// Where the last entry of a type lies in s, which is the caller's input of that number. Refusals: 1, 2, 3.
-pub fn last_entry(s: &[u8], ty: u8, input: u8) -> Found
-    ensures { λ r. ⌜ foundAnswer r ≡ lastSpot ty input (now (s .entry)) ⌝ }
-{
-    match count_entries(s, input) {
-        Counted::Refused(r) => {
-            return Found::Refused(r);
-        }
-        Counted::Entries(_) => {}
-    }
-    let mut best = Found::Absent;
-    let mut at: usize = 0;
-    loop {
-        match frame_at(s, at) {
-            Frame::Entry { ty: t, start, len } => {
-                if t == ty {
-                    best = Found::At {
-                        place: at,
-                        start: start,
-                        len: len,
-                    };
-                }
-                at = start + len;
-            }
-            _ => {
-                return best;
-            }
-        }
-    }
-}
-
-// The value of the last entry of a type, as a part of s; no bytes where there is none or s is refused (`last_entry` tells which).
-pub fn last_value<'a>(s: &'a [u8], ty: u8) -> &'a [u8]
-    ensures { λ r. ⌜ now r ≡ lastValue ty (now (s .entry)) ⌝ }
-{
-    match last_entry(s, ty, 0) {
-        Found::At {
-            place: _,
-            start,
-            len,
-        } => &s[start..start + len],
-        _ => &s[..0],
     }
 }

@@ -8,7 +8,7 @@ use Rattle.refusal.specs.Every.{Every}
 use Rattle.wire.specs.Be.{beFrom, be, wrongLength, ruled}
 use Rattle.tlv.specs.Entries.{valued, first, step, frames, framing}
 use Rattle.tlv.specs.Limits.{limited, framed}
-use Rattle.tlv.specs.Last.{lastOf, lastEntry}
+use Rattle.tlv_last.specs.Last.{lastOf, lastEntry}
 use Rattle.dataset.specs.Queries.{query}
 use Rattle.delay.specs.Delay.{workingDelay, dueSecond}
 

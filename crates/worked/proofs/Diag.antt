@@ -8,7 +8,7 @@ use Rattle.refusal.specs.Every.{Every}
 use Rattle.wire.specs.Be.{be, beFrom}
 use Rattle.tlv.specs.Entries.{valued, first, step, frames, framing}
 use Rattle.tlv.specs.Limits.{limited, framed}
-use Rattle.tlv.specs.Last.{lastOf}
+use Rattle.tlv_last.specs.Last.{lastOf}
 use Rattle.network_framing.specs.Frame.{subIn, headAt}
 use Rattle.network_framing.specs.Walk as w
 use Rattle.network_data.specs.Rules.{ended, rules, checkIn, checkHead, checkPrefix, values, checkFrom, checkValue}

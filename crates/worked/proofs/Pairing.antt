@@ -9,7 +9,7 @@ use Rattle.refusal.specs.Output.{output, emit}
 use Rattle.wire.specs.Be.{beFrom, be}
 use Rattle.tlv.specs.Entries.{valued, first, step, frames, framing}
 use Rattle.tlv.specs.Limits.{limited, framed}
-use Rattle.tlv.specs.Last.{lastOf}
+use Rattle.tlv_last.specs.Last.{lastOf}
 use Rattle.diag_rules.specs.Rule.{keepsRule, valueOf}
 use Rattle.diag_rows.specs.Rows.{listed, childRows}
 use Rattle.diag_entries.specs.Parts.{allOf}

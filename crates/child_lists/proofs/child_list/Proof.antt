@@ -1,7 +1,8 @@
 -- `child_lists::child_list` meets its contract, by what the check of the payload answered and by what was found.
 -- Assumes nothing.
 use mathlib.Core.Path.{sym, ap, _∙_}
-use Rattle.tlv.specs.Answers.{countedAnswer, foundAnswer}
+use Rattle.tlv.specs.Answers.{countedAnswer}
+use Rattle.tlv_last.specs.Answers.{foundAnswer}
 use Rattle.diag_entries.specs.Lists.{childList}
 use Rattle.diag_entries.proofs.Checks.{checked-given, checked-refused}
 use Rattle.child_lists.proofs.Lists.{child-found, child-none}

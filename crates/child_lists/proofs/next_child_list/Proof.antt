@@ -7,7 +7,7 @@ use native.Mathlib.Omega.{arith}
 use lib.ListN.{length}
 use borrow.Author.Needs.{needs}
 use Rattle.refusal.specs.Answer.{onGiven}
-use Rattle.tlv.specs.Last.{spot}
+use Rattle.tlv_last.specs.Last.{spot}
 use Rattle.tlv.proofs.Walks.{from, turn-entries, turn-none, turn-inside}
 use Rattle.refusal.specs.Numbered.{nth}
 use Rattle.diag_entries.specs.Parts.{allOf}

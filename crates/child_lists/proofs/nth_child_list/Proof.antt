@@ -8,8 +8,8 @@ use lib.ListN.{length}
 use borrow.Author.Needs.{needs}
 use Rattle.refusal.specs.Answer.{onGiven}
 use Rattle.tlv.specs.Entries.{Framing, framing}
-use Rattle.tlv.specs.Last.{spot}
-use Rattle.tlv.specs.Answers.{foundAnswer}
+use Rattle.tlv_last.specs.Last.{spot}
+use Rattle.tlv_last.specs.Answers.{foundAnswer}
 use Rattle.tlv.proofs.Walks.{from, from-start}
 use Rattle.refusal.specs.Numbered.{nth}
 use Rattle.laws.proofs.Numbered.{nth-empty}

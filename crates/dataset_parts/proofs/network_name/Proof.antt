@@ -4,7 +4,7 @@ use mathlib.Core.Path.{ap}
 use native.Mathlib.Omega.{arith}
 use native.Mathlib.Nat.{add-sub-cancel-left}
 use Rattle.refusal.specs.Answer.{onGiven}
-use Rattle.tlv.specs.Last.{spot}
+use Rattle.tlv_last.specs.Last.{spot}
 use Rattle.dataset_parts.specs.Parts.{nameEntry}
 use Rattle.dataset.proofs.Finds.{found-inside, none-found, found-refused}
 use Rattle.dataset_parts.proofs.Keeps.{name-kept, name-refused}

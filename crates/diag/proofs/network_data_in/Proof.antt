@@ -3,7 +3,7 @@
 use mathlib.Core.Path.{sym, ap, _∙_}
 use native.Mathlib.Omega.{arith}
 use native.Mathlib.Nat.{add-sub-cancel-left}
-use Rattle.tlv.specs.Answers.{foundAnswer}
+use Rattle.tlv_last.specs.Answers.{foundAnswer}
 use Rattle.network_data.specs.Answers.{checkedAnswer}
 use Rattle.diag.proofs.Fields.{in-payload, network-counted, network-refused, network-none}
 use borrow.Author.Needs.{needs}

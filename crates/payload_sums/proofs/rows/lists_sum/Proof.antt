@@ -7,7 +7,7 @@ use native.Mathlib.Omega.{arith}
 use native.Mathlib.Nat.{add-sub-cancel-left}
 use lib.ListN.{length}
 use Rattle.tlv.specs.Entries.{Framing}
-use Rattle.tlv.specs.Answers.{foundAnswer}
+use Rattle.tlv_last.specs.Answers.{foundAnswer}
 use Rattle.tlv.proofs.Walks.{from, from-start}
 use Rattle.diag_entries.specs.Parts.{allOf}
 use Rattle.child_lists.proofs.Lists.{follows, none-left}

@@ -13,11 +13,11 @@ use Rattle.refusal.specs.Answer.{pick, Answer, given, absent, refused, thenDo, 
 use Rattle.laws.proofs.Tests.{pick-all}
 use Rattle.refusal.specs.Every.{Every}
 use Rattle.laws.proofs.Parts.{length-part}
 use Rattle.tlv.specs.Entries.{Entry, entry}
 use Rattle.tlv.specs.Limits.{framed}
-use Rattle.tlv.specs.Last.{lastOf, lastEntry, Spot, spotAt, spot, lastSpot, valueOr, lastValue}
+use Rattle.tlv_last.specs.Last.{lastOf, lastEntry, Spot, spotAt, spot, lastSpot, valueOr, lastValue}
 use Rattle.tlv.proofs.Walks.{Lies, framing-lies}
 use Rattle.tlv.proofs.Tally.{Holds, framed-holds}
 
 -- the spot of the last of es that has the type, or `best`
 unfoldable pub lastSpotOf : (ty : ℕ) → Answer Spot → List Entry → Answer Spot

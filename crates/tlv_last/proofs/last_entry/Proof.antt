@@ -1,4 +1,4 @@
--- `tlv::last_entry` meets its contract. The invariant: the last entry of the type from the place at on, or best where there is none, is the answer.
+-- `tlv_last::last_entry` meets its contract. The invariant: the last entry of the type from the place at on, or best where there is none, is the answer.
 -- The measure is what is left of the input.
 -- Assumes nothing.
 use mathlib.Core.Path.{_≡_, sym, ap, _∙_}
@@ -7,13 +7,14 @@ use Prim.Native.Nat.{_-_, _≤_}
 use native.Mathlib.Omega.{arith}
 use lib.ListN.{length}
 use borrow.Author.Needs.{needs}
-use Rattle.tlv.specs.Last.{lastSpot}
-use Rattle.tlv.specs.Answers.{countedAnswer, foundAnswer}
+use Rattle.tlv_last.specs.Last.{lastSpot}
+use Rattle.tlv.specs.Answers.{countedAnswer}
+use Rattle.tlv_last.specs.Answers.{foundAnswer}
 use Rattle.tlv.proofs.Walks.{from, turn-entries, turn-none, turn-inside}
 use Rattle.tlv.proofs.Tally.{counted-given, counted-refused}
-use Rattle.tlv.proofs.Lasts.{lastSpotOf, spot-then, last-hit, last-miss, last-none}
-use Rattle.tlv.proofs.last_entry.Statement.{statement}
-use Rattle.tlv.proofs.last_entry.Tie as tie
+use Rattle.tlv_last.proofs.Lasts.{lastSpotOf, spot-then, last-hit, last-miss, last-none}
+use Rattle.tlv_last.proofs.last_entry.Statement.{statement}
+use Rattle.tlv_last.proofs.last_entry.Tie as tie
 
 abbrev Inv-loop : tie.InvT-loop
 Inv-loop s ty input best₀ at₀ best at = (at ≤ length s) × (lastSpotOf ty (foundAnswer best) (from s at .entries) ≡ lastSpot ty input s)

@@ -1,4 +1,4 @@
--- `tlv::last_value` meets its contract: what `last_entry` found lies within the input.
+-- `tlv_last::last_value` meets its contract: what `last_entry` found lies within the input.
 -- Assumes nothing.
 use mathlib.Core.Path.{_≡_, sym, ap, _∙_}
 use mathlib.Core.List.{[], _∷_}
@@ -9,15 +9,15 @@ use native.Mathlib.Nat.{add-sub-cancel-left}
 use types.Run.{OneOf}
 use denote.Enum.Declared.{tagOf}
 use Rattle.refusal.specs.Answer.{given}
-use Rattle.tlv.specs.Last.{Spot}
-use Rattle.tlv.specs.Answers.{foundAnswer}
-use Rattle.tlv.specs.declared.Found.{Found}
-use Rattle.tlv.specs.declared.Found.the-variants.{At, Absent, Refused}
-use Rattle.tlv.proofs.Found
-use Rattle.tlv.proofs.Lasts.{spot-part, spot-none}
+use Rattle.tlv_last.specs.Last.{Spot}
+use Rattle.tlv_last.specs.Answers.{foundAnswer}
+use Rattle.tlv_last.specs.declared.Found.{Found}
+use Rattle.tlv_last.specs.declared.Found.the-variants.{At, Absent, Refused}
+use Rattle.tlv_last.proofs.Found
+use Rattle.tlv_last.proofs.Lasts.{spot-part, spot-none}
 use borrow.Author.Needs.{needs}
-use Rattle.tlv.proofs.last_value.Statement.{statement}
-use Rattle.tlv.proofs.last_value.Tie as tie
+use Rattle.tlv_last.proofs.last_value.Statement.{statement}
+use Rattle.tlv_last.proofs.last_value.Tie as tie
 
 -- the arm for whatever is no place
 no-spot : (r : Found) → OneOf (1 ∷ 2 ∷ []) (tagOf Found.the-type r) → (e : Spot) → foundAnswer r ≡ given e → ⊥
