@@ -1,9 +1,9 @@
--- `protocol::lent::changed` is safe and ends. Assumes nothing.
+-- `edit_texts::lent::changed` is safe and ends. Assumes nothing.
 use Prim.Native.Nat.{_-_}
 use lib.ListN.{length}
 use borrow.Author.Needs.{needs}
-use Rattle.protocol.proofs.lent.changed.Statement.{statement}
-use Rattle.protocol.proofs.lent.changed.Tie as tie
+use Rattle.edit_texts.proofs.lent.changed.Statement.{statement}
+use Rattle.edit_texts.proofs.lent.changed.Tie as tie
 
 abbrev Inv-loop : tie.InvT-loop
 Inv-loop lent from seen₀ i₀ seen i = Unit {0}

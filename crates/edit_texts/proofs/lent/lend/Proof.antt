@@ -1,10 +1,10 @@
--- `protocol::lent::lend` answers no more than the output's length, which it keeps. Assumes nothing.
+-- `edit_texts::lent::lend` answers no more than the output's length, which it keeps. Assumes nothing.
 use Prim.Native.Nat.{_≤_, _-_}
 use lib.ListN.{length}
 use mathlib.Core.Path.{_≡_}
 use borrow.Author.Needs.{needs}
-use Rattle.protocol.proofs.lent.lend.Statement.{statement}
-use Rattle.protocol.proofs.lent.lend.Tie as tie
+use Rattle.edit_texts.proofs.lent.lend.Statement.{statement}
+use Rattle.edit_texts.proofs.lent.lend.Tie as tie
 
 abbrev Inv-loop : tie.InvT-loop
 Inv-loop out₀ cap n i₀ out i = (i ≤ n) × (length out ≡ length out₀)

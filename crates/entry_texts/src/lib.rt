@@ -1,5 +1,4 @@
-// Calls on entries: `frame`, `one`, `raw`.
-use crate::queries::query_texts;
+// The texts of entries, as the program `probe` answers them: `frame`, `one`, `raw`.
 use requests::Values;
 use requests::asks;
 use texts::Room;
@@ -38,8 +37,8 @@ fn put_entries(text: &mut Room, at: usize, s: &[u8]) -> usize {
     }
 }
 
-// How many entries there are, and each.
-pub(crate) fn put_entries_of(text: &mut Room, at: usize, s: &[u8]) -> usize {
+// The answer to `frame` for these bytes: how many entries there are, and each.
+pub fn put_frame(text: &mut Room, at: usize, s: &[u8]) -> usize {
     match tlv::count_entries(s, 0) {
         Counted::Entries(n) => {
             let word = put_text(text, at, b"ok");
@@ -83,10 +82,11 @@ fn put_first(text: &mut Room, at: usize, s: &[u8]) -> usize {
     }
 }
 
-pub(crate) fn framing_texts(request: &Room, v: Values, text: &mut Room, at: usize) -> usize {
+// Puts the answer to a request, or nothing where it is for none of these calls.
+pub fn answer(request: &Room, v: Values, text: &mut Room, at: usize) -> usize {
     let s = v.bytes(request, 1);
     if asks(request, b"frame b") {
-        return put_entries_of(text, at, s);
+        return put_frame(text, at, s);
     }
     if asks(request, b"one b") {
         return put_first(text, at, s);
@@ -94,5 +94,5 @@ pub(crate) fn framing_texts(request: &Room, v: Values, text: &mut Room, at: usiz
     if asks(request, b"raw tb") {
         return put_raw(text, at, v.type_byte(1), v.bytes(request, 2));
     }
-    query_texts(request, v, text, at)
+    at
 }

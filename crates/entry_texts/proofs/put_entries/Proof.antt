@@ -1,11 +1,11 @@
--- `dataset_texts::framing::put_entries` is safe and ends, since an entry lies within the bytes and takes some. Assumes nothing.
+-- `entry_texts::put_entries` is safe and ends, since an entry lies within the bytes and takes some. Assumes nothing.
 use Prim.Native.Nat.{_≤_, _-_}
 use lib.ListN.{length}
 use native.Mathlib.Omega.{arith}
 use borrow.Author.Needs.{needs}
 use Rattle.tlv.proofs.Walks.{turn-inside}
-use Rattle.dataset_texts.proofs.framing.put_entries.Statement.{statement}
-use Rattle.dataset_texts.proofs.framing.put_entries.Tie as tie
+use Rattle.entry_texts.proofs.put_entries.Statement.{statement}
+use Rattle.entry_texts.proofs.put_entries.Tie as tie
 
 abbrev Inv-loop : tie.InvT-loop
 Inv-loop text₀ at s next₀ place₀ text next place = place ≤ length s

@@ -4,7 +4,7 @@ use crate::edits::edit_calls;
 use crate::lent::lend;
 use crate::lent::put_dirty;
 use crate::lent::put_written;
-use dataset_texts::put_frame;
+use entry_texts::put_frame;
 use refusal::Written;
 use requests::Values;
 use requests::asks;
