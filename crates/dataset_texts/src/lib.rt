@@ -1,9 +1,8 @@
 // The texts of datasets, of their values and of change lists, as the program `probe` answers them.
-mod delays;
 mod lists;
 mod masks;
-mod parts;
 mod queries;
+mod times;
 mod typed;
 
 use requests::Values;

@@ -4,6 +4,7 @@
 // `..._calls` of `edit_texts`; where its answer is a text of its own, one in its topic's crate of `..._texts`. A new group is
 // asked by the last one. Such a function needs no proof file unless it has a loop. A request that no group knows is a bad request.
 // docs/USERS.md has an example of each.
+use crate::payloads::payload_texts;
 use crate::rooms::Lent;
 use requests::Values;
 use requests::read;
@@ -12,17 +13,38 @@ use texts::Room;
 // A longer line is no request.
 pub(crate) const LONGEST_LINE: usize = 600000;
 
-// Calls that put a text of their own: the place after it, or `at` where the request is for none of them.
+// Calls on diagnostic payloads and their values: the place after the text, or `at` where the request is for none of them.
+fn diagnostic_texts(request: &Room, v: Values, text: &mut Room, at: usize) -> usize {
+    let value = value_texts::answer(request, v, text, at);
+    if value != at {
+        return value;
+    }
+    let network = network_texts::answer(request, v, text, at);
+    if network != at {
+        return network;
+    }
+    let payload = diag_texts::answer(request, v, text, at);
+    if payload != at {
+        return payload;
+    }
+    payload_texts(request, v, text, at)
+}
+
+// Calls that put a text of their own.
 fn text_calls(request: &Room, v: Values, text: &mut Room, at: usize) -> usize {
     let entry = entry_texts::answer(request, v, text, at);
     if entry != at {
         return entry;
     }
-    let end = dataset_texts::answer(request, v, text, at);
-    if end != at {
-        return end;
+    let dataset = dataset_texts::answer(request, v, text, at);
+    if dataset != at {
+        return dataset;
     }
-    diag_texts::answer(request, v, text, at)
+    let built = built_texts::answer(request, v, text, at);
+    if built != at {
+        return built;
+    }
+    diagnostic_texts(request, v, text, at)
 }
 
 // Puts the answer to a line, or nothing where it is no request that is known.

@@ -1,19 +1,12 @@
-// Calls on diagnostic payloads and their values: `d.TYPE`, `nd`, `diag`, `timeout`, `pair`.
-use crate::bare::put_bare;
-use crate::network::places;
-use crate::network::put_bare_network;
-use crate::pairs::put_pairs;
-use crate::record::put_record;
-use crate::rows::put_seconds;
-use requests::Values;
+// Which value a request is for: `d.TYPE`.
 use requests::asks;
 use texts::Room;
 
 // No field has it.
-const NO_TYPE: u8 = 255;
+pub(crate) const NO_TYPE: u8 = 255;
 
 // The type that a request `d.TYPE` names, or NO_TYPE.
-fn named_type(request: &Room) -> u8 {
+pub(crate) fn named_type(request: &Room) -> u8 {
     if asks(request, b"d.0 b") {
         return 0;
     }
@@ -67,25 +60,4 @@ fn later_type(request: &Room) -> u8 {
         return 30;
     }
     NO_TYPE
-}
-
-pub(crate) fn diagnostic_texts(request: &Room, v: Values, text: &mut Room, at: usize) -> usize {
-    let s = v.bytes(request, 1);
-    if asks(request, b"diag bnnn") {
-        return put_record(text, at, s, places(v.number(2), v.number(3), v.number(4)));
-    }
-    if asks(request, b"nd bnnn") {
-        return put_bare_network(text, at, s, places(v.number(2), v.number(3), v.number(4)));
-    }
-    if asks(request, b"timeout t") {
-        return put_seconds(text, at, v.type_byte(1));
-    }
-    if asks(request, b"pair bn") {
-        return put_pairs(text, at, s, v.number(2));
-    }
-    let ty = named_type(request);
-    if ty == NO_TYPE {
-        return at;
-    }
-    put_bare(text, at, ty, s)
 }

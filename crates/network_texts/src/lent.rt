@@ -1,4 +1,5 @@
-// Tables of Network Data: filled with a pattern before they are lent, their text, and whether what had to stay has changed.
+// Tables of Network Data that are lent: the pattern that fills them before, their text, and whether what had to stay has changed.
+use crate::Table;
 use crate::rows::flags;
 use crate::rows::put_border_router;
 use crate::rows::put_has_route;
@@ -12,18 +13,11 @@ use network_data::OptContext;
 use network_data::PrefixEntry;
 use texts::Room;
 use texts::put_byte;
-use texts::put_text;
 use texts::same;
 
 const PATTERN: u8 = 0xA5;
 
-pub(crate) enum Table {
-    Prefixes,
-    HasRoutes,
-    BorderRouters,
-}
-
-fn no_prefix() -> PrefixEntry {
+pub(crate) fn no_prefix() -> PrefixEntry {
     PrefixEntry {
         domain_id: PATTERN,
         prefix_bit_length: PATTERN,
@@ -34,7 +28,7 @@ fn no_prefix() -> PrefixEntry {
     }
 }
 
-fn no_route() -> HasRouteEntry {
+pub(crate) fn no_route() -> HasRouteEntry {
     HasRouteEntry {
         rloc16: 0xA5A5,
         router_preference: PATTERN,
@@ -42,7 +36,7 @@ fn no_route() -> HasRouteEntry {
     }
 }
 
-fn no_border() -> BorderRouterEntry {
+pub(crate) fn no_border() -> BorderRouterEntry {
     BorderRouterEntry {
         rloc16: 0xA5A5,
         prefix_preference: PATTERN,
@@ -54,17 +48,6 @@ fn no_border() -> BorderRouterEntry {
         is_on_mesh: false,
         is_nd_dns: true,
         is_dp: false,
-    }
-}
-
-pub(crate) fn filled() -> Tables {
-    let prefix = no_prefix();
-    let route = no_route();
-    let border = no_border();
-    Tables {
-        prefixes: [prefix; PLACES],
-        has_route: [route; PLACES],
-        border_routers: [border; PLACES],
     }
 }
 
@@ -141,7 +124,7 @@ fn stays_at(tables: Tables, counts: Counts, k: usize) -> bool {
     true
 }
 
-fn changed(tables: Tables, counts: Counts) -> bool {
+pub(crate) fn changed(tables: Tables, counts: Counts) -> bool {
     let mut k = 0;
     while k < PLACES {
         if !stays_at(tables, counts, k) {
@@ -150,14 +133,6 @@ fn changed(tables: Tables, counts: Counts) -> bool {
         k += 1;
     }
     false
-}
-
-// The word `dirty`, if what a call had to leave has changed: the records past the counts.
-pub(crate) fn put_dirty(text: &mut Room, at: usize, tables: Tables, counts: Counts) -> usize {
-    if changed(tables, counts) {
-        return put_text(text, at, b" dirty");
-    }
-    at
 }
 
 fn put_record(text: &mut Room, at: usize, table: Table, tables: Tables, k: usize) -> usize {

@@ -1,4 +1,9 @@
-// The text of each kind of field.
+// The texts of diagnostic values, as the program `probe` answers them: `d.TYPE`, `timeout`, and what a whole payload has of them.
+mod bare;
+mod kinds;
+mod requested;
+
+use bare::put_bare;
 use diag_rows::Route64;
 use diag_values::Connectivity;
 use diag_values::LeaderData;
@@ -6,7 +11,16 @@ use diag_values::MacCounters;
 use diag_values::ModeData;
 use diag_values::OptU8;
 use diag_values::OptU16;
+use kinds::put_row;
+use kinds::put_seconds;
+use network_texts::Table;
+use requested::NO_TYPE;
+use requested::named_type;
+use requests::Values;
+use requests::asks;
 use texts::Room;
+use texts::digit;
+use texts::part_of;
 use texts::put_byte;
 use texts::put_hex;
 use texts::put_marked;
@@ -14,18 +28,16 @@ use texts::put_number;
 use texts::put_numbers;
 use texts::put_text;
 
-// A blank, the type and `=`.
-pub(crate) fn put_name(text: &mut Room, at: usize, ty: u8) -> usize {
-    let number = put_marked(text, at, b' ', ty as usize);
-    put_byte(text, number, b'=')
-}
-
-pub(crate) fn digit(bit: bool) -> u8 {
-    if bit { b'1' } else { b'0' }
+// What the rows are of: a bare value, for Lists a payload.
+pub enum Rows {
+    Routes,
+    Children,
+    Lists,
+    Network(Table),
 }
 
 // Three digits: receiver on, minimal device, full Network Data.
-pub(crate) fn put_mode(text: &mut Room, at: usize, m: ModeData) -> usize {
+pub fn put_mode(text: &mut Room, at: usize, m: ModeData) -> usize {
     let digits = [
         digit(m.rx_on_when_idle),
         digit(m.is_mtd),
@@ -60,7 +72,7 @@ fn put_late_u8(text: &mut Room, at: usize, late: OptU8) -> usize {
     }
 }
 
-pub(crate) fn put_connectivity(text: &mut Room, at: usize, c: Connectivity) -> usize {
+pub fn put_connectivity(text: &mut Room, at: usize, c: Connectivity) -> usize {
     let numbers = [
         c.link_quality_3 as usize,
         c.link_quality_2 as usize,
@@ -77,7 +89,7 @@ pub(crate) fn put_connectivity(text: &mut Room, at: usize, c: Connectivity) -> u
     put_late_u8(text, buffer, count)
 }
 
-pub(crate) fn put_leader_data(text: &mut Room, at: usize, d: LeaderData) -> usize {
+pub fn put_leader_data(text: &mut Room, at: usize, d: LeaderData) -> usize {
     let numbers = [
         d.weighting as usize,
         d.data_version as usize,
@@ -88,7 +100,7 @@ pub(crate) fn put_leader_data(text: &mut Room, at: usize, d: LeaderData) -> usiz
     put_numbers(text, partition, b',', &numbers)
 }
 
-pub(crate) fn put_mac_counters(text: &mut Room, at: usize, c: MacCounters) -> usize {
+pub fn put_mac_counters(text: &mut Room, at: usize, c: MacCounters) -> usize {
     let numbers = [
         c.if_in_errors as usize,
         c.if_out_errors as usize,
@@ -104,10 +116,47 @@ pub(crate) fn put_mac_counters(text: &mut Room, at: usize, c: MacCounters) -> us
 }
 
 // The sequence and the mask; the rows come after it.
-pub(crate) fn put_route64_head(text: &mut Room, at: usize, route: Route64) -> usize {
+pub fn put_route64_head(text: &mut Room, at: usize, route: Route64) -> usize {
     let mask = route.mask;
     let sequence = put_number(text, at, route.id_sequence as u64);
     let first = put_byte(text, sequence, b',');
     let bytes = put_hex(text, first, &mask);
     put_byte(text, bytes, b',')
+}
+
+// The len bytes of s from start on, or no bytes where s has no such part.
+pub fn part<'a>(s: &'a [u8], start: usize, len: usize) -> &'a [u8] {
+    if start <= s.len() {
+        if len <= s.len() - start {
+            return part_of(s, start, start + len);
+        }
+    }
+    part_of(s, 0, 0)
+}
+
+// The first n rows, or `-` for none.
+pub fn put_rows(text: &mut Room, at: usize, rows: Rows, s: &[u8], n: usize) -> usize {
+    if n == 0 {
+        return put_byte(text, at, b'-');
+    }
+    let mut next = put_row(text, at, rows, s, 0);
+    let mut k = 1;
+    while k < n {
+        let slash = put_byte(text, next, b'/');
+        next = put_row(text, slash, rows, s, k);
+        k += 1;
+    }
+    next
+}
+
+// Puts the answer to a request, or nothing where it is for none of these calls.
+pub fn answer(request: &Room, v: Values, text: &mut Room, at: usize) -> usize {
+    if asks(request, b"timeout t") {
+        return put_seconds(text, at, v.type_byte(1));
+    }
+    let ty = named_type(request);
+    if ty == NO_TYPE {
+        return at;
+    }
+    put_bare(text, at, ty, v.bytes(request, 1))
 }

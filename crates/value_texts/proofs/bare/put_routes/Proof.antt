@@ -1,14 +1,14 @@
--- `diag_texts::lent::put_table` is safe and ends. Assumes nothing.
+-- `value_texts::bare::put_routes` is safe and ends. Assumes nothing.
 use Prim.Native.Nat.{_-_}
 use borrow.Author.Needs.{needs}
-use Rattle.diag_texts.proofs.lent.put_table.Statement.{statement}
-use Rattle.diag_texts.proofs.lent.put_table.Tie as tie
+use Rattle.value_texts.proofs.bare.put_routes.Statement.{statement}
+use Rattle.value_texts.proofs.bare.put_routes.Tie as tie
 
 abbrev Inv-loop : tie.InvT-loop
-Inv-loop text₀ at table tables n next₀ k₀ text next k = Unit {0}
+Inv-loop text₀ at route next₀ k₀ text next k = Unit {0}
 
 abbrev μ-loop : tie.MeasureT-loop
-μ-loop text₀ at table tables n next₀ k₀ text next k = n - k
+μ-loop text₀ at route next₀ k₀ text next k = 64 - k
 
 put-byte-requires : tie.Need-put-byte-requires Inv-loop μ-loop
 put-byte-requires c κs = search needs
@@ -16,17 +16,11 @@ put-byte-requires c κs = search needs
 returns : tie.Need-returns Inv-loop μ-loop
 returns c = search needs
 
-put-record-requires : tie.Need-put-record-requires Inv-loop μ-loop
-put-record-requires c κs = search needs
-
 loop-holds : tie.Need-loop-holds Inv-loop μ-loop
 loop-holds c = search needs
 
-put-byte-requires-2 : tie.Need-put-byte-requires-2 Inv-loop μ-loop
-put-byte-requires-2 c κs = search needs
-
-put-record-requires-2 : tie.Need-put-record-requires-2 Inv-loop μ-loop
-put-record-requires-2 c κs = search needs
+put-nth-route-requires : tie.Need-put-nth-route-requires Inv-loop μ-loop
+put-nth-route-requires c κs = search needs
 
 add-k : tie.Need-add-k Inv-loop μ-loop
 add-k c = search needs
@@ -40,18 +34,16 @@ loop-again c = search needs
 returns-2 : tie.Need-returns-2 Inv-loop μ-loop
 returns-2 c = search needs
 
-pub put-table-spec : {M : Type 1} → statement M
-put-table-spec =
+pub put-routes-spec : {M : Type 1} → statement M
+put-routes-spec =
     tie.close
     (tie.spec
     Inv-loop
     μ-loop
     put-byte-requires
     returns
-    put-record-requires
     loop-holds
-    put-byte-requires-2
-    put-record-requires-2
+    put-nth-route-requires
     add-k
     loop-less
     loop-again

@@ -1,8 +1,8 @@
--- `diag_texts::lent::changed` is safe and ends. Assumes nothing.
+-- `network_texts::lent::changed` is safe and ends. Assumes nothing.
 use Prim.Native.Nat.{_-_}
 use borrow.Author.Needs.{needs}
-use Rattle.diag_texts.proofs.lent.changed.Statement.{statement}
-use Rattle.diag_texts.proofs.lent.changed.Tie as tie
+use Rattle.network_texts.proofs.lent.changed.Statement.{statement}
+use Rattle.network_texts.proofs.lent.changed.Tie as tie
 
 abbrev Inv-loop : tie.InvT-loop
 Inv-loop tables counts k₀ k = Unit {0}

@@ -1,8 +1,8 @@
--- `diag_texts::bare::put_each_address` is safe and ends. Assumes nothing.
+-- `value_texts::bare::put_each_address` is safe and ends. Assumes nothing.
 use Prim.Native.Nat.{_-_}
 use borrow.Author.Needs.{needs}
-use Rattle.diag_texts.proofs.bare.put_each_address.Statement.{statement}
-use Rattle.diag_texts.proofs.bare.put_each_address.Tie as tie
+use Rattle.value_texts.proofs.bare.put_each_address.Statement.{statement}
+use Rattle.value_texts.proofs.bare.put_each_address.Tie as tie
 
 abbrev Inv-loop : tie.InvT-loop
 Inv-loop text₀ at value n next₀ k₀ text next k = Unit {0}

@@ -1,6 +1,4 @@
-// What typed values are made of: `ts.build`, `ts.parts`, `flags.get`, `flags.set`, `flags.has`, `channel.bytes`, `policy.bytes`.
-use crate::delays::delay_texts;
-use crate::typed::put_timestamp;
+// The texts of typed values built from numbers, and of flags, as the program `probe` answers them: `ts.build`, `channel.bytes`, `policy.bytes`, `flags.get`, `flags.set`, `flags.has`.
 use requests::Values;
 use requests::asks;
 use texts::Room;
@@ -90,19 +88,13 @@ fn flags_texts(request: &Room, v: Values, text: &mut Room, at: usize) -> usize {
     if asks(request, b"flags.has ss") {
         return put_has(text, at, flags, v.short(2));
     }
-    delay_texts(request, v, text, at)
+    at
 }
 
-pub(crate) fn part_texts(request: &Room, v: Values, text: &mut Room, at: usize) -> usize {
+// Puts the answer to a request, or nothing where it is for none of these calls.
+pub fn answer(request: &Room, v: Values, text: &mut Room, at: usize) -> usize {
     if asks(request, b"ts.build nsi") {
         return put_built(text, at, v.number(1), v.short(2), v.number(3));
-    }
-    if asks(request, b"ts.parts b") {
-        let value = v.bytes(request, 1);
-        if value.len() != 8 {
-            return at;
-        }
-        return put_timestamp(text, at, Timestamp::parse(value, 0));
     }
     if asks(request, b"channel.bytes ts") {
         return put_channel_bytes(text, at, v.type_byte(1), v.short(2));
