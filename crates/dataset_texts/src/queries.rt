@@ -1,6 +1,6 @@
 // Typed queries of a dataset, `q.KIND`, and the same of a bare value, `v.KIND`.
 use crate::masks::put_mask;
-use crate::parts::part_texts;
+use crate::times::time_texts;
 use crate::typed::put_array_8;
 use crate::typed::put_array_16;
 use crate::typed::put_channel;
@@ -110,5 +110,5 @@ fn byte_values(request: &Room, v: Values, text: &mut Room, at: usize) -> usize {
     if asks(request, b"v.mask b") {
         return put_mask(text, at, channel_masks::count_mask_items(s, 0), s);
     }
-    part_texts(request, v, text, at)
+    time_texts(request, v, text, at)
 }

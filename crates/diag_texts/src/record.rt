@@ -1,17 +1,4 @@
-// The record of a payload: its fields, types ascending.
-use crate::fields::put_connectivity;
-use crate::fields::put_leader_data;
-use crate::fields::put_mac_counters;
-use crate::fields::put_mode;
-use crate::fields::put_name;
-use crate::fields::put_route64_head;
-use crate::lent::filled;
-use crate::lent::put_dirty;
-use crate::network::places;
-use crate::rows::Rows;
-use crate::rows::part;
-use crate::rows::put_rows;
-use diag::Decoded;
+// The fields of a payload's record, types ascending.
 use diag::NetDiagData;
 use diag::OptConnectivity;
 use diag::OptLeaderData;
@@ -23,13 +10,20 @@ use diag::OptU32;
 use diag_values::OptU8;
 use diag_values::OptU16;
 use network_data::Counts;
+use network_texts::Table;
 use texts::Room;
 use texts::put_byte;
 use texts::put_hex;
+use texts::put_name;
 use texts::put_number;
-use texts::put_ok;
-use texts::put_refusal;
-use texts::put_text;
+use value_texts::Rows;
+use value_texts::part;
+use value_texts::put_connectivity;
+use value_texts::put_leader_data;
+use value_texts::put_mac_counters;
+use value_texts::put_mode;
+use value_texts::put_route64_head;
+use value_texts::put_rows;
 
 // Here and below: nothing where the field is absent.
 fn put_bytes(text: &mut Room, at: usize, ty: u8, payload: &[u8], field: OptPart) -> usize {
@@ -130,14 +124,26 @@ fn put_routes_field(text: &mut Room, at: usize, payload: &[u8], field: OptPart) 
 // The records as the calls by number hand them out; those of the tables are what `nd` shows.
 fn put_network(text: &mut Room, at: usize, value: &[u8], counts: Counts) -> usize {
     let name = put_name(text, at, diag_rules::NETWORK_DATA);
-    let prefixes = put_rows(text, name, Rows::Prefixes, value, counts.prefixes);
+    let prefixes = put_rows(
+        text,
+        name,
+        Rows::Network(Table::Prefixes),
+        value,
+        counts.prefixes,
+    );
     let first = put_byte(text, prefixes, b'|');
-    let routes = put_rows(text, first, Rows::HasRoutes, value, counts.has_routes);
+    let routes = put_rows(
+        text,
+        first,
+        Rows::Network(Table::HasRoutes),
+        value,
+        counts.has_routes,
+    );
     let second = put_byte(text, routes, b'|');
     put_rows(
         text,
         second,
-        Rows::BorderRouters,
+        Rows::Network(Table::BorderRouters),
         value,
         counts.border_routers,
     )
@@ -178,7 +184,7 @@ fn put_lists_field(text: &mut Room, at: usize, payload: &[u8], n: usize) -> usiz
 }
 
 // Types 0 to 4.
-fn put_first(text: &mut Room, at: usize, payload: &[u8], d: NetDiagData) -> usize {
+pub(crate) fn put_first(text: &mut Room, at: usize, payload: &[u8], d: NetDiagData) -> usize {
     let ext_mac_addr = d.ext_mac_addr;
     let mac_addr = d.mac_addr;
     let mode = d.mode;
@@ -192,7 +198,7 @@ fn put_first(text: &mut Room, at: usize, payload: &[u8], d: NetDiagData) -> usiz
 }
 
 // Types 5 to 9.
-fn put_second(text: &mut Room, at: usize, payload: &[u8], d: NetDiagData) -> usize {
+pub(crate) fn put_second(text: &mut Room, at: usize, payload: &[u8], d: NetDiagData) -> usize {
     let route64 = d.route64;
     let leader_data = d.leader_data;
     let network_data = d.network_data;
@@ -206,7 +212,7 @@ fn put_second(text: &mut Room, at: usize, payload: &[u8], d: NetDiagData) -> usi
 }
 
 // Types 14 to 30.
-fn put_third(text: &mut Room, at: usize, payload: &[u8], d: NetDiagData) -> usize {
+pub(crate) fn put_third(text: &mut Room, at: usize, payload: &[u8], d: NetDiagData) -> usize {
     let battery_level = d.battery_level;
     let supply_voltage = d.supply_voltage;
     let child_table = d.child_table;
@@ -220,47 +226,4 @@ fn put_third(text: &mut Room, at: usize, payload: &[u8], d: NetDiagData) -> usiz
     let f = put_bytes(text, e, diag_rules::TYPE_LIST, payload, type_list);
     let g = put_bytes(text, f, diag_rules::EUI64, payload, eui64);
     put_lists_field(text, g, payload, d.child_ipv6_addresses)
-}
-
-// `ok` and the fields, or `-` for none.
-fn put_fields(text: &mut Room, at: usize, payload: &[u8], d: NetDiagData) -> usize {
-    let word = put_ok(text, at);
-    let first = put_first(text, word, payload, d);
-    let second = put_second(text, first, payload, d);
-    let end = put_third(text, second, payload, d);
-    if end == word {
-        return put_text(text, end, b" -");
-    }
-    end
-}
-
-fn counts_of(field: OptNetworkData) -> Counts {
-    match field {
-        OptNetworkData::Some(x) => x.counts,
-        OptNetworkData::None => places(0, 0, 0),
-    }
-}
-
-// What `diag_tables::decode` answers, with tables lent that are filled with a pattern.
-pub(crate) fn put_record(text: &mut Room, at: usize, payload: &[u8], lent: Counts) -> usize {
-    let left = diag_bridge::decode(
-        payload,
-        filled(),
-        lent.prefixes,
-        lent.has_routes,
-        lent.border_routers,
-    );
-    let answer = left.answer;
-    let tables = left.tables;
-    match answer {
-        Decoded::Data(d) => {
-            let network_data = d.network_data;
-            let end = put_fields(text, at, payload, d);
-            put_dirty(text, end, tables, counts_of(network_data))
-        }
-        Decoded::Refused(r) => {
-            let end = put_refusal(text, at, r);
-            put_dirty(text, end, tables, places(0, 0, 0))
-        }
-    }
 }

@@ -1,13 +1,7 @@
 // The line protocol of the program `probe`: requests on standard input, one answer line each.
-mod answers;
 mod calls;
-mod edits;
-mod entries;
-mod hexes;
-mod lent;
 mod lines;
-mod listings;
-mod lists;
+mod payloads;
 mod rooms;
 
 // Answers each line of the standard input, of which there may be any number, until its end. A line has up to 600,000 characters; a longer

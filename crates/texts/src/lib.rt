@@ -50,6 +50,11 @@ pub fn put_text(text: &mut Room, at: usize, s: &[u8]) -> usize {
     next
 }
 
+// A bit as a digit.
+pub fn digit(bit: bool) -> u8 {
+    if bit { b'1' } else { b'0' }
+}
+
 fn digit_of(value: u8) -> u8 {
     let v = value % 16;
     if v < 10 { b'0' + v } else { b'a' - 10 + v }
@@ -81,6 +86,12 @@ pub fn put_number(text: &mut Room, at: usize, n: u64) -> usize {
 pub fn put_marked(text: &mut Room, at: usize, mark: u8, n: usize) -> usize {
     let next = put_byte(text, at, mark);
     put_number(text, next, n as u64)
+}
+
+// The name of a field: a blank, its type and `=`.
+pub fn put_name(text: &mut Room, at: usize, ty: u8) -> usize {
+    let number = put_marked(text, at, b' ', ty as usize);
+    put_byte(text, number, b'=')
 }
 
 // Numbers, the mark before each.
