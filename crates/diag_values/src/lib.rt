@@ -1,5 +1,5 @@
 // The values of a network-diagnostic payload (decode.rs, model.rs) that are one number or one record, each read from its own bytes. Those with rows
-// are in `diag_rows`; Network Data, type 7, is in neither.
+// are in `diag_rows` and `route64`; Network Data, type 7, is in none of them.
 use diag_rules::Judged;
 use refusal::Refusal;
 ghost use mathlib.Core.Path.{_≡_};
