@@ -23,6 +23,8 @@ use texts::put_name;
 use texts::put_ok;
 use texts::put_refusal;
 use texts::put_text;
+ghost use mathlib.Core.Path.{_≡_};
+ghost use Rattle.network_data.specs.Rules.{counts};
 
 pub enum Table {
     Prefixes,
@@ -31,7 +33,9 @@ pub enum Table {
 }
 
 // How many records are lent of each table.
-pub fn places(prefixes: u64, has_routes: u64, border_routers: u64) -> Counts {
+pub fn places(prefixes: u64, has_routes: u64, border_routers: u64) -> Counts
+    ensures { λ r. ⌜ r ≡ counts prefixes «has_routes» «border_routers» ⌝ }
+{
     Counts {
         prefixes: prefixes as usize,
         has_routes: has_routes as usize,

@@ -7,7 +7,9 @@ use texts::part_of;
 use texts::put_byte;
 use texts::put_text;
 use texts::same;
+ghost use mathlib.Core.Path.{_≡_};
 ghost use Prim.Native.Nat.{_≤_};
+ghost use Rattle.requests.specs.Places.{lesser, bytesBefore};
 
 // A request has at most so many words, its name among them, and a name at most so long: the bytes come after what both can take.
 const MOST_VALUES: usize = 24;
@@ -49,6 +51,7 @@ pub struct Values {
 // The lesser of two numbers.
 pub fn least(a: usize, b: usize) -> usize
     ensures { λ r. ⌜ r ≤ b ⌝ }
+    ensures { λ r. ⌜ r ≡ lesser a b ⌝ }
 {
     if a < b { a } else { b }
 }
@@ -56,6 +59,7 @@ pub fn least(a: usize, b: usize) -> usize
 // The place of the first `stop`, or the end.
 pub fn until(s: &[u8], stop: u8) -> usize
     ensures { λ r. do ⌜ r ≤ (← ⟦s.len()⟧ .entry) ⌝ }
+    ensures { λ r. ⌜ r ≡ bytesBefore stop (now (s .entry)) ⌝ }
 {
     let mut i = 0;
     while i < s.len() {
