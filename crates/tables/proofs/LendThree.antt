@@ -45,9 +45,6 @@ use Rattle.tables.proofs.Lends.{aval, array-typed, Loan, Lender, part-l
 
 -- ---- one array: what is asked of it and of its count
 module _ (E : Elem) (n : ℕ) where
-  abbrev vals : E .D → List Val
-  vals d = E .val d ∷ []
-
   abbrev pub ArrayIs : List (E .D) → Type 0
   ArrayIs xs = Is (Array (rowOf E) n) xs (aval E n xs ∷ [])
 
@@ -286,7 +283,7 @@ module _ (n : ℕ) (P H B O T Z : Elem) (p-rooms : (k : ℕ) → k ≤ n → Roo
     lent-walks : Walks 𝓤 𝓗 A ended stayed (WpFn 𝓤 𝓗 (𝓣 .C) (𝓣 .Λ) function) (clauses 𝓤)
     lent-walks = walked 𝓤 𝓗 A ended stayed (clauses 𝓤) (WpFn 𝓤 𝓗 (𝓣 .C) (𝓣 .Λ) function)
         (λ κs. (slice-vals, ((λ xs. aval P n xs ∷ []), (uint-vals w64, ((λ xs. aval H n xs ∷ []), (uint-vals w64, ((λ xs. aval B n xs ∷ []), (uint-vals w64, tt))))))))
-        (λ κs. (shr-slice-tells (named 0) (κs .0) u8, (array-tells RP (vals P n) (P .tells) n, (uint-tells w64, (array-tells RH (vals H n) (H .tells) n, (uint-tells w64, (array-tells RB (vals B n) (B .tells) n, (uint-tells w64, tt))))))))
+        (λ κs. (shr-slice-tells (named 0) (κs .0) u8, (array-tells RP (λ d. P .val d ∷ []) (P .tells) n, (uint-tells w64, (array-tells RH (λ d. H .val d ∷ []) (H .tells) n, (uint-tells w64, (array-tells RB (λ d. B .val d ∷ []) (B .tells) n, (uint-tells w64, tt))))))))
         (λ κs qs bounds a g are. needs 𝓤 _ _ (λ pre.
         walk 𝓤 𝓗 A W (κs .0) (qs .0) (a .0) (a .1 .0) (a .1 .1 .0) (a .1 .1 .1 .0) (a .1 .1 .1 .1 .0) (a .1 .1 .1 .1 .1 .0) (a .1 .1 .1 .1 .1 .1 .0)
         (are .0 .0 .1) (are .1 .0) (are .1 .1 .1 .0) (are .1 .1 .1 .1 .1 .0) (pre .0) (pre .1) (pre .2) 𝓣 known))
