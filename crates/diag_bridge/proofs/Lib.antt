@@ -1,3 +1,1 @@
-pub mod Whole
 pub mod Papers
-pub mod Calls

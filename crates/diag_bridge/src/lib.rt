@@ -1,13 +1,10 @@
 // The bridge to `diag_tables::decode` for callers that have tables by value: parts of them are lent to it, and they come back.
-mod lend;
-
 use diag::Decoded;
-use lend::lent_answer;
-use lend::lent_borders;
-use lend::lent_prefixes;
-use lend::lent_routes;
 use network_bridge::PLACES;
 use network_bridge::Tables;
+use network_data::BorderRouterEntry;
+use network_data::HasRouteEntry;
+use network_data::PrefixEntry;
 ghost use mathlib.Core.Path.{_≡_};
 ghost use Prim.Native.Nat.{_≤_};
 ghost use Rattle.network_bridge.specs.Parts.{places, lentOf};
@@ -28,8 +25,36 @@ fn lent_of(n: usize) -> usize
     n
 }
 
-// `diag_tables::decode` with the first records of each table lent: np, nh and nb of them, or all where more are asked for. It is called once for
-// the answer and once for each table, since a call hands back one of them.
+// The call on the first np, nh and nb records of three arrays. It makes the loans, and hands back the answer with the arrays.
+fn lent(
+    payload: &[u8],
+    mut prefixes: [PrefixEntry; PLACES],
+    np: usize,
+    mut routes: [HasRouteEntry; PLACES],
+    nh: usize,
+    mut borders: [BorderRouterEntry; PLACES],
+    nb: usize,
+) -> Left
+    requires { ⌜ (np ≤ places) × (nh ≤ places) × (nb ≤ places) ⌝ }
+    ensures { λ r. ⌜ outcomeOf (now (payload .entry)) r ≡ leftWhole (now (payload .entry)) prefixes np routes nh borders nb ⌝ }
+{
+    let answer = diag_tables::decode(
+        payload,
+        &mut prefixes[..np],
+        &mut routes[..nh],
+        &mut borders[..nb],
+    );
+    Left {
+        answer: answer,
+        tables: Tables {
+            prefixes: prefixes,
+            has_route: routes,
+            border_routers: borders,
+        },
+    }
+}
+
+// `diag_tables::decode` with the first records of each table lent: np, nh and nb of them, or all where more are asked for.
 pub fn decode(payload: &[u8], tables: Tables, np: usize, nh: usize, nb: usize) -> Left
     ensures { λ r. ⌜ outcomeOf (now (payload .entry)) r ≡ leftWhole (now (payload .entry)) (tables .prefixes) (lentOf np) (tables .«has_route») (lentOf nh) (tables .«border_routers») (lentOf nb) ⌝ }
 {
@@ -39,12 +64,5 @@ pub fn decode(payload: &[u8], tables: Tables, np: usize, nh: usize, nb: usize) -
     let prefixes = tables.prefixes;
     let routes = tables.has_route;
     let borders = tables.border_routers;
-    Left {
-        answer: lent_answer(payload, prefixes, p, routes, h, borders, b),
-        tables: Tables {
-            prefixes: lent_prefixes(payload, prefixes, p, routes, h, borders, b),
-            has_route: lent_routes(payload, prefixes, p, routes, h, borders, b),
-            border_routers: lent_borders(payload, prefixes, p, routes, h, borders, b),
-        },
-    }
+    lent(payload, prefixes, p, routes, h, borders, b)
 }

@@ -1,10 +1,4 @@
 // The bridge to `network_tables::decode` for callers that have tables by value: parts of them are lent to it, and they come back.
-mod lend;
-
-use lend::lent_answer;
-use lend::lent_borders;
-use lend::lent_prefixes;
-use lend::lent_routes;
 use network_data::BorderRouterEntry;
 use network_data::Checked;
 use network_data::HasRouteEntry;
@@ -38,8 +32,36 @@ fn lent_of(n: usize) -> usize
     n
 }
 
-// `network_tables::decode` with the first records of each table lent: np, nh and nb of them, or all where more are asked for. It is called once for
-// the answer and once for each table, since a call hands back one of them.
+// The call on the first np, nh and nb records of three arrays. It makes the loans, and hands back the answer with the arrays.
+fn lent(
+    value: &[u8],
+    mut prefixes: [PrefixEntry; PLACES],
+    np: usize,
+    mut routes: [HasRouteEntry; PLACES],
+    nh: usize,
+    mut borders: [BorderRouterEntry; PLACES],
+    nb: usize,
+) -> Decoded
+    requires { ⌜ (np ≤ places) × (nh ≤ places) × (nb ≤ places) ⌝ }
+    ensures { λ r. ⌜ outcomeOf r ≡ leftWhole (decodeNetworkData 0 (now (value .entry))) prefixes np routes nh borders nb ⌝ }
+{
+    let answer = network_tables::decode(
+        value,
+        &mut prefixes[..np],
+        &mut routes[..nh],
+        &mut borders[..nb],
+    );
+    Decoded {
+        answer: answer,
+        tables: Tables {
+            prefixes: prefixes,
+            has_route: routes,
+            border_routers: borders,
+        },
+    }
+}
+
+// `network_tables::decode` with the first records of each table lent: np, nh and nb of them, or all where more are asked for.
 pub fn decode(value: &[u8], tables: Tables, np: usize, nh: usize, nb: usize) -> Decoded
     ensures { λ r. ⌜ outcomeOf r ≡ leftWhole (decodeNetworkData 0 (now (value .entry))) (tables .prefixes) (lentOf np) (tables .«has_route») (lentOf nh) (tables .«border_routers») (lentOf nb) ⌝ }
 {
@@ -49,12 +71,5 @@ pub fn decode(value: &[u8], tables: Tables, np: usize, nh: usize, nb: usize) -> 
     let prefixes = tables.prefixes;
     let routes = tables.has_route;
     let borders = tables.border_routers;
-    Decoded {
-        answer: lent_answer(value, prefixes, p, routes, h, borders, b),
-        tables: Tables {
-            prefixes: lent_prefixes(value, prefixes, p, routes, h, borders, b),
-            has_route: lent_routes(value, prefixes, p, routes, h, borders, b),
-            border_routers: lent_borders(value, prefixes, p, routes, h, borders, b),
-        },
-    }
+    lent(value, prefixes, p, routes, h, borders, b)
 }

@@ -1,4 +1,5 @@
 pub mod Elem
 pub mod FillBy
 pub mod Lends
+pub mod LendThree
 pub mod Follows
