@@ -1,5 +1,5 @@
 // The pairing of a payload: how many rows, then what is said of each.
-use pair_codes::Pairing;
+use pair_rule::Pairing;
 use pairing::Answered;
 use requests::least;
 use texts::Room;

@@ -29,6 +29,6 @@ pub mod ChildLists
 pub mod Diag
 pub mod DiagTables
 pub mod DiagBridge
-pub mod PairCodes
+pub mod PairRule
 pub mod Pairing
 pub mod Listing

@@ -19,14 +19,14 @@ use Rattle.diag_entries.specs.Parts.{allOf}
 use Rattle.diag_entries.specs.Checked.{checked}
 use Rattle.diag_entries.specs.Lists.{AddressList, addressList, addressLists}
 use Rattle.diag_entries.proofs.Checks.{checked-given}
-use Rattle.pair_codes.specs.Codes.{codeUnclear, codeOf, meant}
-use Rattle.pairing.specs.Pairing.{pairing}
+use Rattle.pair_rule.specs.Codes.{codeUnclear, codeOf, meant}
+use Rattle.pair_rule.specs.Pairing.{pairing}
 use Rattle.pairing.specs.Payload.{rowIds, listIds, pairings, paired, codes, rowPairing}
-use Rattle.pair_codes.specs.declared.Pairing.{Pairing}
-use Rattle.pair_codes.specs.declared.Pairing.the-variants as p
-use Rattle.pair_codes.proofs.Back.{Below, codes-back}
+use Rattle.pair_rule.specs.declared.Pairing.{Pairing}
+use Rattle.pair_rule.specs.declared.Pairing.the-variants as p
+use Rattle.pair_rule.proofs.Back.{Below, codes-back}
 use Rattle.pairing.proofs.Rowed.{nth-map}
-use Rattle.pairing.proofs.Sense.{paired-is}
+use Rattle.pair_rule.proofs.Sense.{paired-is}
 use Rattle.pairing.proofs.Payloads.{framed-by}
 
 -- ---- the lists of a payload are no more than its entries, and those are few

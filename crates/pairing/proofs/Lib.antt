@@ -1,6 +1,5 @@
 pub mod Tallies
 pub mod Rowed
-pub mod Sense
 pub mod Ids
 pub mod Payloads
 pub mod Meaning

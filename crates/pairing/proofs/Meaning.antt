@@ -15,12 +15,12 @@ use Rattle.diag_rows.specs.Rows.{listed, childRows, addressListOf}
 use Rattle.diag_entries.specs.Parts.{last, allOf}
 use Rattle.diag_entries.specs.Checked.{checked}
 use Rattle.diag_entries.specs.Lists.{addressLists}
-use Rattle.pairing.specs.Pairing.{occurs, pairing}
+use Rattle.pair_rule.specs.Pairing.{occurs, pairing}
 use Rattle.pairing.specs.Payload.{rowIds, listIds, pairings, paired, codes}
-use Rattle.pair_codes.specs.declared.Pairing.the-variants as p
+use Rattle.pair_rule.specs.declared.Pairing.the-variants as p
 use Rattle.pairing.proofs.Ids.{rowId}
 use Rattle.pairing.proofs.Rowed.{nth-map}
-use Rattle.pairing.proofs.Sense.{Pair, paired-is, none-is, is-unclear, occurs-twice}
+use Rattle.pair_rule.proofs.Sense.{Pair, paired-is, none-is, is-unclear, occurs-twice}
 
 -- ---- one row
 module _ (es : List Entry) where

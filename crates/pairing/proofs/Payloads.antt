@@ -24,13 +24,13 @@ use Rattle.diag_entries.specs.Parts.{last, allOf}
 use Rattle.diag_entries.specs.Checked.{decoding, checked}
 use Rattle.diag_entries.specs.Lists.{addressLists}
 use Rattle.diag_entries.proofs.Checks.{Decodes, entry-other, checked-given, checked-refused}
-use Rattle.pairing.specs.Pairing.{pairing}
-use Rattle.pair_codes.specs.Codes.{codeOf}
+use Rattle.pair_rule.specs.Pairing.{judged, pairing}
+use Rattle.pair_rule.specs.Codes.{codeOf}
 use Rattle.pairing.specs.Payload.{rowIds, listIds, pairings, paired, codes, rowPairing}
-use Rattle.pairing.specs.Loops.{orZero, rowIdAt, rowsOf, listIdOf, listsOf, Counts, Places, judged, codesBy}
-use Rattle.pair_codes.specs.declared.Pairing.{Pairing}
+use Rattle.pairing.specs.Loops.{orZero, rowIdAt, rowsOf, listIdOf, listsOf, Counts, Places, codesBy}
+use Rattle.pair_rule.specs.declared.Pairing.{Pairing}
 use Rattle.pairing.proofs.Rowed.{listed-map, listed-same, every-listed, map-same, nth-in, nth-out, nth-map}
-use Rattle.pairing.proofs.Sense.{judged-is}
+use Rattle.pairing.proofs.Tallies.{judged-is}
 use Rattle.pairing.proofs.Ids.{rowOf, rowId, row-id-low, rows-length}
 
 -- ---- the place of the entry is nothing to a value that keeps its rule

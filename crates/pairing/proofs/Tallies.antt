@@ -10,7 +10,7 @@ use lib.ListN.{length, getD, set, replicate, length-set, getD-replicate}
 use lib.Seq.{getD-set-same, getD-set-other}
 use borrow.Author.Tests.{eq-eqb, ne-eqb, eqb-true, eqb-false}
 use Rattle.laws.proofs.Tests.{by-test}
-use Rattle.pairing.specs.Pairing.{occurs}
+use Rattle.pair_rule.specs.Pairing.{occurs, placeOf, judged, pairing}
 use Rattle.pairing.specs.Loops.{lastPlace, Counts, Places}
 
 -- ---- one element more: x itself, or another
@@ -102,3 +102,29 @@ counting-same table all l m n e g = rw e at g
 
 pub placing-same : (table all l m : List ℕ) (n : ℕ) → l ≡ m → Placing table all l n → Placing table all m n
 placing-same table all l m n e g = rw e at g
+
+-- ---- what the counts and the place say of a row
+
+-- the last place is the only one
+last-not : (x best n : ℕ) (ys : List ℕ) → occurs x ys ≡ 0 → lastPlace x best n ys ≡ best
+unfolding occurs lastPlace
+last-not x best n [] h = refl
+last-not x best n (y ∷ ys) h =
+    by-test (eqb y x)
+    (λ e. absurd (let z : suc (occurs x ys) ≡ 0 = rw e at h in omega arith))
+    (λ e. rw e (last-not x best (n + 1) ys (rw e at h)))
+
+last-only : (x best n : ℕ) (ys : List ℕ) → occurs x ys ≡ 1 → lastPlace x best n ys ≡ n + placeOf x ys
+unfolding occurs lastPlace placeOf
+last-only x best n [] h = absurd (omega arith)
+last-only x best n (y ∷ ys) h =
+    by-test (eqb y x)
+    (λ e. let z : suc (occurs x ys) ≡ 1 = rw e at h in rw e (last-not x n (n + 1) ys (omega arith) ∙ omega arith))
+    (λ e. rw e (last-only x best (n + 1) ys (rw e at h) ∙ omega arith))
+
+pub judged-is : (rows lists : List ℕ) (id : ℕ) → judged (occurs id rows) (occurs id lists) (lastPlace id 0 0 lists) ≡ pairing rows lists id
+unfolding judged pairing
+judged-is rows lists id =
+    by-test (eqb (occurs id lists) 1)
+    (λ e. rw (last-only id 0 0 lists (eqb-true _ _ e)) (rw zero-add))
+    (λ e. rw e)

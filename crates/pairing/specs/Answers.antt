@@ -3,7 +3,7 @@
 use Prim.Native.Nat.{ℕ}
 use Rattle.refusal.specs.Answer.{Answer, given, absent}
 use Rattle.refusal.specs.Number.{refusalAnswer}
-use Rattle.pair_codes.specs.declared.Pairing.{Pairing}
+use Rattle.pair_rule.specs.declared.Pairing.{Pairing}
 use Rattle.pairing.specs.declared.Answered.{Answered}
 use Rattle.pairing.specs.declared.Answered.the-variants as a
 use Rattle.pairing.specs.declared.ReadPairing.{ReadPairing}

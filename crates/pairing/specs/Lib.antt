@@ -1,4 +1,3 @@
-pub mod Pairing
 pub mod Payload
 pub mod Answers
 pub mod Loops

@@ -13,10 +13,8 @@ use Rattle.diag_rows.specs.Rows.{listed, childRows, addressListOf}
 use Rattle.diag_rows.specs.declared.ChildTableEntry.{ChildTableEntry}
 use Rattle.diag_rows.specs.declared.ChildIpv6AddrInfo.{ChildIpv6AddrInfo}
 use Rattle.diag_entries.specs.Parts.{allOf}
-use Rattle.pairing.specs.Pairing.{occurs}
-use Rattle.pair_codes.specs.Codes.{codeOf}
-use Rattle.pair_codes.specs.declared.Pairing.{Pairing}
-use Rattle.pair_codes.specs.declared.Pairing.the-variants as p
+use Rattle.pair_rule.specs.Pairing.{occurs, judged}
+use Rattle.pair_rule.specs.Codes.{codeOf}
 
 -- ---- child IDs, 0 where a value is refused: that does not occur in a payload that was checked
 
@@ -50,10 +48,6 @@ pub record Counts (table xs : List ℕ) : Type 0 where
 
 pub record Places (table xs : List ℕ) : Type 0 where
   pub is : (i : ℕ) → i < 512 → getD table i 0 ≡ lastPlace i 0 0 xs
-
--- what is said of a row by the counts of its child ID
-unfoldable pub judged : (rows lists place : ℕ) → Pairing
-judged rows lists place = pick (eqb rows 1) (pick (eqb lists 1) (p.Paired place) (pick (eqb lists 0) p.None p.Unclear)) p.Unclear
 
 abbrev pub codeBy : (rows count place : List ℕ) → (id : ℕ) → ℕ
 codeBy rows count place id = codeOf (judged (getD rows id 0) (getD count id 0) (getD place id 0))

@@ -11,9 +11,9 @@ use Rattle.diag_rows.specs.declared.ChildTableEntry.{ChildTableEntry}
 use Rattle.diag_entries.specs.Parts.{last}
 use Rattle.diag_entries.specs.Checked.{checked}
 use Rattle.diag_entries.specs.Lists.{AddressList, addressLists}
-use Rattle.pairing.specs.Pairing.{pairing}
-use Rattle.pair_codes.specs.Codes.{codeOf}
-use Rattle.pair_codes.specs.declared.Pairing.{Pairing}
+use Rattle.pair_rule.specs.Pairing.{pairing}
+use Rattle.pair_rule.specs.Codes.{codeOf}
+use Rattle.pair_rule.specs.declared.Pairing.{Pairing}
 
 -- the child IDs of the rows of the last child table (type 16): none where there is no table
 unfoldable pub rowIds : List Entry → List ℕ

@@ -1,7 +1,8 @@
 // Rows of a payload's child table, paired with its address lists by child ID.
 use diag_rows::ReadAddressList;
 use diag_rows::ReadChild;
-use pair_codes::Pairing;
+use pair_rule::Pairing;
+use pair_rule::judge;
 use refusal::Fault;
 use refusal::Refusal;
 use tlv::Counted;
@@ -14,7 +15,7 @@ ghost use Rattle.refusal.specs.Output.{put, output, emit};
 ghost use Rattle.tlv.specs.Entries.{framing};
 ghost use Rattle.pairing.specs.Payload.{codes, rowPairing};
 ghost use Rattle.pairing.specs.Answers.{answeredAnswer, pairingAnswer};
-ghost use Rattle.pairing.specs.Loops.{rowIdAt, listIdOf, rowsOf, listsOf, Counts, Places, judged, codesBy};
+ghost use Rattle.pairing.specs.Loops.{rowIdAt, listIdOf, rowsOf, listsOf, Counts, Places, codesBy};
 
 // How many rows were answered.
 pub enum Answered {
@@ -102,22 +103,6 @@ fn count_lists(payload: &[u8]) -> Lists
             }
         }
     }
-}
-
-// What is said of a row whose child ID stands so often in the table and among the lists, in the list of that number last.
-fn judge(rows: u16, lists: u16, place: u16) -> Pairing
-    ensures { λ r. ⌜ r ≡ judged rows lists place ⌝ }
-{
-    if rows != 1 {
-        return Pairing::Unclear;
-    }
-    if lists == 1 {
-        return Pairing::Paired(place);
-    }
-    if lists == 0 {
-        return Pairing::None;
-    }
-    Pairing::Unclear
 }
 
 // A number for each row of a table, from the start of out on.

@@ -15,8 +15,8 @@ use Rattle.diag_rows.specs.Rows.{listed, childRows}
 use Rattle.diag_entries.specs.Parts.{allOf}
 use Rattle.diag_entries.specs.Checked.{entryValue, decoding, checked}
 use Rattle.diag_entries.specs.Lists.{addressLists}
-use Rattle.pairing.specs.Pairing.{occurs, placeOf, pairing}
-use Rattle.pair_codes.specs.Codes.{codeNone, codeUnclear}
+use Rattle.pair_rule.specs.Pairing.{occurs, placeOf, judged, pairing}
+use Rattle.pair_rule.specs.Codes.{codeNone, codeUnclear}
 use Rattle.pairing.specs.Payload.{rowIds, listIds, pairings, paired, codes}
 
 -- an answer, and what it must be
@@ -49,12 +49,12 @@ lines =
     ∷ []
 
 pub worked : Every (λ (l : Line). l .0 ≡ l .1) lines
-unfolding codes paired pairings pairing occurs placeOf rowIds listIds addressLists allOf childRows listed be beFrom lastOf checked decoding entryValue
+unfolding codes paired pairings pairing judged occurs placeOf rowIds listIds addressLists allOf childRows listed be beFrom lastOf checked decoding entryValue
     valueOf keepsRule framed limited framing frames step first valued
 worked = (refl, (refl, (refl, (refl, (refl, (refl, (refl, tt)))))))
 
 -- and no room for the one answer
 pub no-room : emit (codes (row [])) [] ≡ output (refused 11 0 0) []
-unfolding emit codes paired pairings pairing occurs placeOf rowIds listIds addressLists allOf childRows listed be beFrom lastOf checked decoding
+unfolding emit codes paired pairings pairing judged occurs placeOf rowIds listIds addressLists allOf childRows listed be beFrom lastOf checked decoding
     entryValue valueOf keepsRule framed limited framing frames step first valued
 no-room = refl

@@ -7,7 +7,7 @@ use lib.ListN.{length, drop, length-set}
 use borrow.Author.Needs.{needs}
 use Rattle.refusal.specs.Output.{put}
 use Rattle.laws.proofs.Puts.{put-none}
-use Rattle.pair_codes.specs.Codes.{codeOf}
+use Rattle.pair_rule.specs.Codes.{codeOf}
 use Rattle.pairing.specs.Loops.{rowsOf, codesBy}
 use Rattle.pairing.proofs.Ids.{codes-turn, codes-end}
 use Rattle.pairing.proofs.write_codes.Statement.{statement}

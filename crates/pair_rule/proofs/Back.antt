@@ -6,9 +6,9 @@ use Prim.Native.Nat.{ℕ, _<_}
 use native.Mathlib.Omega.{arith}
 use borrow.Author.Tests.{ne-eqb}
 use Rattle.refusal.specs.Every.{Every}
-use Rattle.pair_codes.specs.Codes.{codeNone, codeUnclear, codeOf, meant}
-use Rattle.pair_codes.specs.declared.Pairing.{Pairing}
-use Rattle.pair_codes.specs.declared.Pairing.the-variants as p
+use Rattle.pair_rule.specs.Codes.{codeNone, codeUnclear, codeOf, meant}
+use Rattle.pair_rule.specs.declared.Pairing.{Pairing}
+use Rattle.pair_rule.specs.declared.Pairing.the-variants as p
 
 -- a pair whose list has a number below n
 abbrev pub Below : ℕ → Pairing → Type 0

@@ -4,30 +4,28 @@ use mathlib.Core.Path.{_≡_, refl, ap, _∙_}
 use mathlib.Core.List.{List, [], _∷_}
 use Prim.Native.Nat.{ℕ, zero, suc, _+_, _≤_, _<_}
 use native.Mathlib.Omega.{arith}
-use native.Mathlib.Nat.{zero-add}
 use lib.Dec.{eqb}
 use lib.ListN.{length}
 use borrow.Author.Tests.{eq-eqb, ne-eqb, eqb-true}
 use Rattle.refusal.specs.Answer.{given}
 use Rattle.laws.proofs.Tests.{by-test}
 use Rattle.refusal.specs.Numbered.{nth}
-use Rattle.pairing.specs.Pairing.{occurs, placeOf, pairing}
-use Rattle.pairing.specs.Loops.{lastPlace, judged}
-use Rattle.pair_codes.specs.declared.Pairing.{Pairing}
-use Rattle.pair_codes.specs.declared.Pairing.the-variants as p
+use Rattle.pair_rule.specs.Pairing.{occurs, placeOf, judged, pairing}
+use Rattle.pair_rule.specs.declared.Pairing.{Pairing}
+use Rattle.pair_rule.specs.declared.Pairing.the-variants as p
 
 -- ---- by the counts
 module _ (rows lists : List ℕ) (id : ℕ) where
   pub is-paired : occurs id rows ≡ 1 → occurs id lists ≡ 1 → pairing rows lists id ≡ p.Paired (placeOf id lists)
-  unfolding pairing
+  unfolding pairing judged
   is-paired h k = rw (h, k)
 
   pub is-none : occurs id rows ≡ 1 → occurs id lists ≡ 0 → pairing rows lists id ≡ p.None
-  unfolding pairing
+  unfolding pairing judged
   is-none h k = rw (h, k)
 
   pub is-unclear : (occurs id rows ≡ 1 → ⊥) → pairing rows lists id ≡ p.Unclear
-  unfolding pairing
+  unfolding pairing judged
   is-unclear h = rw (ne-eqb _ _ h)
 
 -- ---- where x stands
@@ -40,23 +38,6 @@ place-low : (x : ℕ) (ys : List ℕ) → 1 ≤ occurs x ys → placeOf x ys < l
 unfolding occurs placeOf
 place-low x [] h = absurd (omega arith)
 place-low x (y ∷ ys) h = by-test (eqb y x) (λ e. rw e (omega arith)) (λ e. rw e (omega (arith, place-low x ys (rw e at h))))
-
--- the last place is the only one
-last-not : (x best n : ℕ) (ys : List ℕ) → occurs x ys ≡ 0 → lastPlace x best n ys ≡ best
-unfolding occurs lastPlace
-last-not x best n [] h = refl
-last-not x best n (y ∷ ys) h =
-    by-test (eqb y x)
-    (λ e. absurd (let z : suc (occurs x ys) ≡ 0 = rw e at h in omega arith))
-    (λ e. rw e (last-not x best (n + 1) ys (rw e at h)))
-
-last-only : (x best n : ℕ) (ys : List ℕ) → occurs x ys ≡ 1 → lastPlace x best n ys ≡ n + placeOf x ys
-unfolding occurs lastPlace placeOf
-last-only x best n [] h = absurd (omega arith)
-last-only x best n (y ∷ ys) h =
-    by-test (eqb y x)
-    (λ e. let z : suc (occurs x ys) ≡ 1 = rw e at h in rw e (last-not x n (n + 1) ys (omega arith) ∙ omega arith))
-    (λ e. rw e (last-only x best (n + 1) ys (rw e at h) ∙ omega arith))
 
 -- ---- what an answer says
 apart : {G : Type 0} (x y : Pairing) → (x ≡ y → _≡_ {A = ℕ} 0 1) → x ≡ y → G
@@ -71,7 +52,7 @@ pub record Pair (rows lists : List ℕ) (id k : ℕ) : Type 0 where
 
 module _ (rows lists : List ℕ) (id : ℕ) where
   pub paired-is : (k : ℕ) → pairing rows lists id ≡ p.Paired k → Pair rows lists id k
-  unfolding pairing
+  unfolding pairing judged
   paired-is k h =
       by-test (eqb (occurs id rows) 1)
       (λ a. by-test (eqb (occurs id lists) 1)
@@ -91,7 +72,7 @@ module _ (rows lists : List ℕ) (id : ℕ) where
 
   -- "none": it stands once in the table and in no list
   pub none-is : pairing rows lists id ≡ p.None → (occurs id rows ≡ 1) × (occurs id lists ≡ 0)
-  unfolding pairing
+  unfolding pairing judged
   none-is h =
       by-test (eqb (occurs id rows) 1)
       (λ a. by-test (eqb (occurs id lists) 1)
@@ -103,16 +84,8 @@ module _ (rows lists : List ℕ) (id : ℕ) where
 
 -- ---- the order of the rows is nothing to it: only how often each ID stands among them
 pub rows-in-any-order : (rows other lists : List ℕ) (id : ℕ) → occurs id rows ≡ occurs id other → pairing rows lists id ≡ pairing other lists id
-unfolding pairing
+unfolding pairing judged
 rows-in-any-order rows other lists id e = rw e
-
--- ---- the counts of the code
-pub judged-is : (rows lists : List ℕ) (id : ℕ) → judged (occurs id rows) (occurs id lists) (lastPlace id 0 0 lists) ≡ pairing rows lists id
-unfolding judged pairing
-judged-is rows lists id =
-    by-test (eqb (occurs id lists) 1)
-    (λ e. rw (last-only id 0 0 lists (eqb-true _ _ e)) (rw zero-add))
-    (λ e. rw e)
 
 -- ---- two places
 occurs-some : (x : ℕ) (ys : List ℕ) (i : ℕ) → nth ys i ≡ given x → 1 ≤ occurs x ys

@@ -1,9 +1,9 @@
--- `pair_codes::Pairing::from_code` meets its contract: one test for each branch passed.
+-- `pair_rule::Pairing::from_code` meets its contract: one test for each branch passed.
 -- Assumes nothing.
 use borrow.Author.Tests.{eq-eqb, ne-eqb}
-use Rattle.pair_codes.specs.Codes.{meant}
-use Rattle.pair_codes.proofs.Pairing.from_code.Statement.{statement}
-use Rattle.pair_codes.proofs.Pairing.from_code.Tie as tie
+use Rattle.pair_rule.specs.Codes.{meant}
+use Rattle.pair_rule.proofs.Pairing.from_code.Statement.{statement}
+use Rattle.pair_rule.proofs.Pairing.from_code.Tie as tie
 
 returns : tie.Need-returns
 unfolding meant

@@ -1,9 +1,9 @@
--- `pairing::judge` meets its contract: one test for each branch passed.
+-- `pair_rule::judge` meets its contract: one test for each branch passed.
 -- Assumes nothing.
 use borrow.Author.Tests.{eq-eqb, ne-eqb}
-use Rattle.pairing.specs.Loops.{judged}
-use Rattle.pairing.proofs.judge.Statement.{statement}
-use Rattle.pairing.proofs.judge.Tie as tie
+use Rattle.pair_rule.specs.Pairing.{judged}
+use Rattle.pair_rule.proofs.judge.Statement.{statement}
+use Rattle.pair_rule.proofs.judge.Tie as tie
 
 returns : tie.Need-returns
 unfolding judged

@@ -3,8 +3,8 @@
 use Prim.Native.Nat.{ℕ}
 use lib.Dec.{eqb}
 use Rattle.refusal.specs.Answer.{pick}
-use Rattle.pair_codes.specs.declared.Pairing.{Pairing}
-use Rattle.pair_codes.specs.declared.Pairing.the-variants as p
+use Rattle.pair_rule.specs.declared.Pairing.{Pairing}
+use Rattle.pair_rule.specs.declared.Pairing.the-variants as p
 
 abbrev pub codeNone : ℕ
 codeNone = 65535

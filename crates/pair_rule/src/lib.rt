@@ -1,6 +1,7 @@
-// What is said of a row of a child table that is paired with the address lists, and the number that stands for it in an output.
+// What is said of a row of a child table that is paired with the address lists: the rule, and the number that stands for the answer in an output.
 ghost use mathlib.Core.Path.{_≡_};
-ghost use Rattle.pair_codes.specs.Codes.{codeOf, meant};
+ghost use Rattle.pair_rule.specs.Pairing.{judged};
+ghost use Rattle.pair_rule.specs.Codes.{codeOf, meant};
 
 // In an output of numbers a pair is the number of its list; these stand for the other two answers.
 pub const CODE_NONE: u16 = 65535;
@@ -38,4 +39,20 @@ impl Pairing {
         }
         Pairing::Paired(code)
     }
+}
+
+// What is said of a row whose child ID stands so often in the table and among the lists, in the list of that number last.
+pub fn judge(rows: u16, lists: u16, place: u16) -> Pairing
+    ensures { λ r. ⌜ r ≡ judged rows lists place ⌝ }
+{
+    if rows != 1 {
+        return Pairing::Unclear;
+    }
+    if lists == 1 {
+        return Pairing::Paired(place);
+    }
+    if lists == 0 {
+        return Pairing::None;
+    }
+    Pairing::Unclear
 }
