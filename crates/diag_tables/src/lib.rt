@@ -10,7 +10,7 @@ use refusal::Fault;
 use refusal::Refusal;
 ghost use mathlib.Core.Path.{_≡_};
 ghost use Rattle.refusal.specs.Answer.{pick, given, refused};
-ghost use Rattle.network_tables.specs.Tables.{roomFor};
+ghost use Rattle.network_plans.specs.Planned.{roomFor};
 ghost use Rattle.diag.specs.Answers.{decodedAnswer};
 ghost use Rattle.diag_tables.specs.Tables.{answered, outcome, decoded};
 ghost use Rattle.diag_tables.specs.Planned.{Inside, valueIn, Planned};

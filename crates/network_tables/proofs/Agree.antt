@@ -10,7 +10,8 @@ use Rattle.refusal.specs.Answer.{Answer, given, absent, refused, thenDo}
 use Rattle.laws.proofs.Tests.{pick-all}
 use Rattle.network_data.specs.Decode.{Prefix, decodeNetworkData, allRoutes, allBorders, countsOf, entryOf}
 use Rattle.refusal.specs.Numbered.{nth}
-use Rattle.network_tables.specs.Tables.{roomFor, Outcome, written, decoded}
+use Rattle.network_plans.specs.Planned.{roomFor}
+use Rattle.network_tables.specs.Tables.{Outcome, written, decoded}
 use Rattle.network_data.specs.declared.Counts.{Counts}
 use Rattle.network_data.specs.declared.PrefixEntry.{PrefixEntry}
 use Rattle.network_data.specs.declared.HasRouteEntry.{HasRouteEntry}

@@ -16,10 +16,10 @@ use Rattle.network_data.specs.Rules.{counts, checkValue}
 use Rattle.network_data.specs.Decode.{Prefix, contents, entryOf, allRoutes, allBorders, countsOf, decodeNetworkData}
 use Rattle.network_data.specs.Answers.{checkedAnswer}
 use Rattle.network_tables.specs.Cursor.{firstRow, nextRow, RowHere, routeOf, borderOf, SpanHere, entryAt, spanEnd}
-use Rattle.network_tables.specs.Planned.{amount, Planned}
-use Rattle.network_tables.specs.Tables.{roomFor, answered, Outcome, outcome, over, written, decoded}
+use Rattle.network_plans.specs.Planned.{roomFor, answered, amount, Planned, planned, plannedFor}
+use Rattle.network_tables.specs.Tables.{Outcome, outcome, over, written, decoded}
 use Rattle.network_data.specs.declared.Counts.{Counts}
-use Rattle.network_tables.specs.declared.lent.Plan.{Plan}
+use Rattle.network_plans.specs.declared.Plan.{Plan}
 use Rattle.network_tables.specs.declared.rows.Rows.{Rows}
 use Rattle.network_data.specs.declared.Checked.{Checked}
 use Rattle.network_data.specs.declared.PrefixEntry.{PrefixEntry}
@@ -28,19 +28,6 @@ use Rattle.network_data.specs.declared.BorderRouterEntry.{BorderRouterEntry}
 use Rattle.laws.proofs.Tests.{pick-all}
 use Rattle.network_tables.proofs.Chains.{Heads, prefix-rows, prefix-here, checked-heads}
 use Rattle.network_tables.proofs.Rowed.{route-rows, route-here, border-rows, border-here}
-
-module _ (p h b : ℕ) where
-  pub answered-given : (d : Answer (List Prefix)) (c : Counts) → given c ≡ onGiven countsOf d → roomFor c p h b ≡ answered d p h b
-  unfolding answered
-  answered-given (given ps) c e = let x : c ≡ countsOf ps = cc in ap (λ (y : Counts). roomFor y p h b) x
-  answered-given absent c e = absurd (let z : _≡_ {A = ℕ} 0 1 = cc in omega arith)
-  answered-given (refused n q i) c e = absurd (let z : _≡_ {A = ℕ} 0 1 = cc in omega arith)
-
-  pub answered-refused : (d : Answer (List Prefix)) (n q i : ℕ) → refused n q i ≡ onGiven countsOf d → refused n q i ≡ answered d p h b
-  unfolding answered
-  answered-refused (given ps) n q i e = absurd (let z : _≡_ {A = ℕ} 0 1 = cc in omega arith)
-  answered-refused absent n q i e = absurd (let z : _≡_ {A = ℕ} 0 1 = cc in omega arith)
-  answered-refused (refused m r j) n q i e = cc
 
 same-outcome : (a : Answer Counts) (x x′ : List PrefixEntry) (y y′ : List HasRouteEntry) (z z′ : List BorderRouterEntry) → x ≡ x′ → y ≡ y′ → z ≡ z′ → outcome a x y z ≡ outcome a x′ y′ z′
 same-outcome a x x′ y y′ z z′ e f g = ap (λ (t : List PrefixEntry). outcome a t y z) e ∙ ap (λ (t : List HasRouteEntry). outcome a x′ t z) f ∙ ap (outcome a x′ y′) g
@@ -144,7 +131,16 @@ module _ (s : List ℕ) where
     abbrev A : Answer Counts
     A = answered (decodeNetworkData 0 s) (length P) (length H) (length B)
 
-    module _ (r : Plan) (k : Planned A r) where
+    module _ (r : Plan) (k : planned r ≡ plannedFor A) where
+      p-is : r .prefixes ≡ amount A .prefixes
+      p-is = ap (λ (x : Planned). x .amounts .prefixes) k
+
+      h-is : r .«has_routes» ≡ amount A .«has_routes»
+      h-is = ap (λ (x : Planned). x .amounts .«has_routes») k
+
+      b-is : r .«border_routers» ≡ amount A .«border_routers»
+      b-is = ap (λ (x : Planned). x .amounts .«border_routers») k
+
       abbrev pub AskP : ℕ → Type 0
       AskP n = (0 + n ≤ length P) × ((i : ℕ) → i < n → SpanHere s (steps (spanEnd s) i 0))
 
@@ -155,29 +151,29 @@ module _ (s : List ℕ) where
       AskB n c = (0 + n ≤ length B) × ((i : ℕ) → i < n → RowHere 4 s (steps (nextRow 2 4 s) i c))
 
       pub ask-p : AskP (r .prefixes)
-      ask-p = subst AskP (sym (k .p)) (ready (length P) (length H) (length B) .0)
+      ask-p = subst AskP (sym p-is) (ready (length P) (length H) (length B) .0)
 
       pub ask-h : (c : Rows) → c ≡ firstRow 0 3 s → AskH (r .«has_routes») c
-      ask-h c e = subst (AskH (r .«has_routes»)) (sym e) (subst (λ (n : ℕ). AskH n (firstRow 0 3 s)) (sym (k .h)) (ready (length P) (length H) (length B) .1))
+      ask-h c e = subst (AskH (r .«has_routes»)) (sym e) (subst (λ (n : ℕ). AskH n (firstRow 0 3 s)) (sym h-is) (ready (length P) (length H) (length B) .1))
 
       pub ask-b : (c : Rows) → c ≡ firstRow 2 4 s → AskB (r .«border_routers») c
-      ask-b c e = subst (AskB (r .«border_routers»)) (sym e) (subst (λ (n : ℕ). AskB n (firstRow 2 4 s)) (sym (k .b)) (ready (length P) (length H) (length B) .2))
+      ask-b c e = subst (AskB (r .«border_routers»)) (sym e) (subst (λ (n : ℕ). AskB n (firstRow 2 4 s)) (sym b-is) (ready (length P) (length H) (length B) .2))
 
       module _ (u v : Rows) (u-is : u ≡ firstRow 0 3 s) (v-is : v ≡ firstRow 2 4 s) (a : Checked) (a-is : a ≡ r .answer)
           (P′ : List PrefixEntry) (P-is : P′ ≡ into P (λ i. entryAt s (steps (spanEnd s) i 0)) (r .prefixes))
           (H′ : List HasRouteEntry) (H-is : H′ ≡ into H (λ i. routeOf s (steps (nextRow 0 3 s) i u)) (r .«has_routes»))
           (B′ : List BorderRouterEntry) (B-is : B′ ≡ into B (λ i. borderOf s (steps (nextRow 2 4 s) i v)) (r .«border_routers»)) where
         p-done : P′ ≡ into P (λ i. entryAt s (steps (spanEnd s) i 0)) (amount A .prefixes)
-        p-done = P-is ∙ ap (into P (λ i. entryAt s (steps (spanEnd s) i 0))) (k .p)
+        p-done = P-is ∙ ap (into P (λ i. entryAt s (steps (spanEnd s) i 0))) p-is
 
         h-done : H′ ≡ into H (λ i. routeOf s (steps (nextRow 0 3 s) i (firstRow 0 3 s))) (amount A .«has_routes»)
-        h-done = H-is ∙ ap (λ (c : Rows). into H (λ i. routeOf s (steps (nextRow 0 3 s) i c)) (r .«has_routes»)) u-is ∙ ap (into H (λ i. routeOf s (steps (nextRow 0 3 s) i (firstRow 0 3 s)))) (k .h)
+        h-done = H-is ∙ ap (λ (c : Rows). into H (λ i. routeOf s (steps (nextRow 0 3 s) i c)) (r .«has_routes»)) u-is ∙ ap (into H (λ i. routeOf s (steps (nextRow 0 3 s) i (firstRow 0 3 s)))) h-is
 
         b-done : B′ ≡ into B (λ i. borderOf s (steps (nextRow 2 4 s) i (firstRow 2 4 s))) (amount A .«border_routers»)
-        b-done = B-is ∙ ap (λ (c : Rows). into B (λ i. borderOf s (steps (nextRow 2 4 s) i c)) (r .«border_routers»)) v-is ∙ ap (into B (λ i. borderOf s (steps (nextRow 2 4 s) i (firstRow 2 4 s)))) (k .b)
+        b-done = B-is ∙ ap (λ (c : Rows). into B (λ i. borderOf s (steps (nextRow 2 4 s) i c)) (r .«border_routers»)) v-is ∙ ap (into B (λ i. borderOf s (steps (nextRow 2 4 s) i (firstRow 2 4 s)))) b-is
 
         pub finish : outcome (checkedAnswer a) P′ H′ B′ ≡ decoded (decodeNetworkData 0 s) P H B
         finish =
-            ap (λ (x : Answer Counts). outcome x P′ H′ B′) (ap checkedAnswer a-is ∙ k .said)
+            ap (λ (x : Answer Counts). outcome x P′ H′ B′) (ap checkedAnswer a-is ∙ ap (λ (x : Planned). x .answer) k)
             ∙ same-outcome A _ _ _ _ _ _ p-done h-done b-done
             ∙ done-by (decodeNetworkData 0 s) ours

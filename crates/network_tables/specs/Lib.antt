@@ -1,4 +1,3 @@
 pub mod Answers
 pub mod Cursor
 pub mod Tables
-pub mod Planned

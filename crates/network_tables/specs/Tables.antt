@@ -1,25 +1,15 @@
 -- The lent tables after a call: "Rows go into the caller's tables of prefix and route records, in prefix order, a prefix giving only its row
 -- counts; records past the reported counts keep their old contents" (document 01), and "Every lent byte and record stays" where it refuses.
 -- Assumes nothing.
-use Prim.Native.Nat.{ℕ}
 use mathlib.Core.List.{List, _++_, map}
 use lib.ListN.{length, drop}
-use lib.Dec.{leb}
-use Rattle.refusal.specs.Answer.{pick, Answer, given, absent, refused, thenDo}
+use Rattle.refusal.specs.Answer.{Answer, given, absent, refused}
 use Rattle.network_data.specs.Decode.{Prefix, entryOf, allRoutes, allBorders, countsOf}
+use Rattle.network_plans.specs.Planned.{roomFor}
 use Rattle.network_data.specs.declared.Counts.{Counts}
 use Rattle.network_data.specs.declared.PrefixEntry.{PrefixEntry}
 use Rattle.network_data.specs.declared.HasRouteEntry.{HasRouteEntry}
 use Rattle.network_data.specs.declared.BorderRouterEntry.{BorderRouterEntry}
-
--- 11, "table too short for the result": tables of p, h and b places
-unfoldable pub roomFor : Counts → (p h b : ℕ) → Answer Counts
-roomFor c p h b =
-    pick (leb (c .prefixes) p)
-    (pick (leb (c .«has_routes») h) (pick (leb (c .«border_routers») b) (given c) (refused 11 0 0)) (refused 11 0 0)) (refused 11 0 0)
-
-unfoldable pub answered : Answer (List Prefix) → (p h b : ℕ) → Answer Counts
-answered d p h b = thenDo d (λ (ps : List Prefix). roomFor (countsOf ps) p h b)
 
 -- the answer of a call and the three tables as they are left
 pub record Outcome : Type 0 where

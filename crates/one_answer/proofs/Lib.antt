@@ -18,6 +18,7 @@ pub mod Delay
 pub mod NetworkFraming
 pub mod NetworkData
 pub mod NetworkWalker
+pub mod NetworkPlans
 pub mod NetworkTables
 pub mod NetworkBridge
 pub mod DiagRules

@@ -1,7 +1,7 @@
 -- `diag_tables::has_room` meets its contract: at each `return` the tests that led there say which case of `roomFor` holds.
 -- Assumes nothing.
 use borrow.Author.Tests.{le-leb, lt-leb}
-use Rattle.network_tables.specs.Tables.{roomFor}
+use Rattle.network_plans.specs.Planned.{roomFor}
 use Rattle.diag_tables.proofs.Plans.{room-last}
 use Rattle.diag_tables.proofs.has_room.Statement.{statement}
 use Rattle.diag_tables.proofs.has_room.Tie as tie

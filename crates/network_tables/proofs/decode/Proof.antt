@@ -44,28 +44,27 @@ use Rattle.tables.specs.Tab.{tab, steps}
 use Rattle.network_data.specs.declared.PrefixEntry.{PrefixEntry}
 use Rattle.network_data.specs.declared.HasRouteEntry.{HasRouteEntry}
 use Rattle.network_data.specs.declared.BorderRouterEntry.{BorderRouterEntry}
-use Rattle.network_tables.specs.declared.lent.Plan.{Plan}
+use Rattle.network_plans.specs.declared.Plan.{Plan}
 use Rattle.network_tables.specs.declared.rows.Rows.{Rows}
 use Rattle.network_data.specs.declared.Checked.{Checked}
 use Rattle.network_data.specs.declared.Counts.{Counts}
 use Rattle.refusal.specs.Answer.{Answer}
 use Rattle.network_data.specs.Decode.{decodeNetworkData}
 use Rattle.network_tables.specs.Cursor.{firstRow, nextRow, routeOf, borderOf, entryAt, spanEnd}
-use Rattle.network_tables.specs.Tables.{answered}
-use Rattle.network_tables.specs.Planned.{Planned}
+use Rattle.network_plans.specs.Planned.{answered, planned, plannedFor}
 use Rattle.network_tables.proofs.Plans.{ask-p, ask-h, ask-b, finish}
 use Rattle.network_data.proofs.PrefixEntry as TP
 use Rattle.network_data.proofs.HasRouteEntry as TH
 use Rattle.network_data.proofs.BorderRouterEntry as TB
-use Rattle.network_tables.proofs.lent.Plan as P
-use Rattle.network_tables.proofs.lent.Plan.Laws as P′
+use Rattle.network_plans.proofs.Plan as P
+use Rattle.network_plans.proofs.Plan.Laws as P′
 use Rattle.network_tables.proofs.rows.Rows as K
 use Rattle.network_tables.proofs.rows.Rows.Laws as K′
 use Rattle.network_data.proofs.Checked as O
 use Rattle.network_data.proofs.Checked.Laws as O′
-use Rattle.network_tables.proofs.lent.plan_for as plan
-use Rattle.network_tables.proofs.lent.plan_for.Symbol as plan-def
-use Rattle.network_tables.proofs.lent.plan_for.Met as plan-thm
+use Rattle.network_plans.proofs.plan_for as plan
+use Rattle.network_plans.proofs.plan_for.Symbol as plan-def
+use Rattle.network_plans.proofs.plan_for.Met as plan-thm
 use Rattle.network_tables.proofs.rows.first_route as first-h
 use Rattle.network_tables.proofs.rows.first_route.Symbol as first-h-def
 use Rattle.network_tables.proofs.rows.first_route.Met as first-h-thm
@@ -190,6 +189,9 @@ module _ {M : Type 1} (𝓤 : URA M) (H : Heap 𝓤) (A : Atoms 𝓤) (W : Given
   abbrev Wanted : Answer Counts
   Wanted = answered (decodeNetworkData 0 s) (length (xp .now)) (length (xh .now)) (length (xb .now))
 
+  abbrev Told : Plan → Type 0
+  Told p = planned p ≡ plannedFor Wanted
+
   abbrev Post : Val → SProp 𝓤
   Post = walkOf 𝓤 H A dec.ended stayed (dec.clauses 𝓤 H A mem run) .post (((κy, (κp, (κh, (κb, tt)))), (qy, (qp, (qh, (qb, tt)))), tt, a, at), tt)
 
@@ -244,13 +246,13 @@ module _ {M : Type 1} (𝓤 : URA M) (H : Heap 𝓤) (A : Atoms 𝓤) (W : Given
   began-first-b r = exE 𝓤 _ (λ ws. snd∗ 𝓤 (sem 𝓤 H A (lasts first-b.ended (κy, tt) (xy, tt) ws)) (fact 𝓤 (r ≡ firstRow 2 4 s)))
 
   -- of a callee's `ensured`, the clause alone, where it has no `&mut`
-  planned : (p : Plan) → ent 𝓤 (ensured 𝓤 H A plan.ended (plan.clauses 𝓤 H A mem run) (κy, tt) plan-args tt p) (fact 𝓤 (Planned Wanted p))
-  planned p = exE 𝓤 _ (λ ws. snd∗ 𝓤 (sem 𝓤 H A (lasts plan.ended (κy, tt) plan-args ws)) (fact 𝓤 (Planned Wanted p)))
+  plans : (p : Plan) → ent 𝓤 (ensured 𝓤 H A plan.ended (plan.clauses 𝓤 H A mem run) (κy, tt) plan-args tt p) (fact 𝓤 (Told p))
+  plans p = exE 𝓤 _ (λ ws. snd∗ 𝓤 (sem 𝓤 H A (lasts plan.ended (κy, tt) plan-args ws)) (fact 𝓤 (Told p)))
 
   answers : (p : Plan) (o : Checked) → ent 𝓤 (ensured 𝓤 H A answer.ended (answer.clauses 𝓤 H A mem run) tt (p, tt) tt o) (fact 𝓤 (o ≡ p .answer))
   answers p o = exE 𝓤 _ (λ ws. snd∗ 𝓤 (sem 𝓤 H A (lasts answer.ended tt (p, tt) ws)) (fact 𝓤 (o ≡ p .answer)))
 
-  module _ (p : Plan) (is : Is P.the-row p (LL.vals P.the-type P′.the-laws p)) (e : Planned Wanted p) (u v : Rows) (u-is : Is K.the-row u (LL.vals K.the-type K′.the-laws u)) (v-is : Is K.the-row v (LL.vals K.the-type K′.the-laws v)) (eu : u ≡ firstRow 0 3 s) (ev : v ≡ firstRow 2 4 s) where
+  module _ (p : Plan) (is : Is P.the-row p (LL.vals P.the-type P′.the-laws p)) (e : Told p) (u v : Rows) (u-is : Is K.the-row u (LL.vals K.the-type K′.the-laws u)) (v-is : Is K.the-row v (LL.vals K.the-type K′.the-laws v)) (eu : u ≡ firstRow 0 3 s) (ev : v ≡ firstRow 2 4 s) where
     fits-p : p .prefixes < 2 ^ 64
     fits-p = LL.owed P.the-type P′.the-laws p _ is .1 .0 .1
 
@@ -342,7 +344,7 @@ module _ {M : Type 1} (𝓤 : URA M) (H : Heap 𝓤) (A : Atoms 𝓤) (W : Given
         use2 W (raw (Plan-for 𝓤 H A mem run .pre to-plan) ⊛ ‵ OwnY) asks-plan $ split ! $
         calls-at ! (fmOf 𝓤 H (W .laws) 𝓣) (Plan-for 𝓤 H A mem run) known-plan to-plan (and-then ! (load ! (from ! (stop !)) (look ! 40 refl)) (and-then ! (load ! (from ! (stop !)) (look ! 26 refl)) (and-then ! (load ! (from ! (stop !)) (look ! 24 refl)) (and-then ! (load ! (from ! (stop !)) (look ! 22 refl)) (no-more !))))) (λ w₁.
         use1 W (later (some (λ (p : Plan). ((‵ (flft κy qy) ⊛ ‵ ftrue) ⊛ ‵ (P.the-row .own p (w₁ ∷ []))) ⊛ raw (ensured 𝓤 H A plan.ended (plan.clauses 𝓤 H A mem run) (κy, tt) plan-args tt p)))) (id⊢ 𝓤 _) $ await ! tt $ picks ! (λ p.
-        split ! $ move ! (1 ∷ []) $ use1 W (raw (fact 𝓤 (Planned Wanted p))) (planned p) $ heard ! (Planned Wanted p) (λ e. split ! $ move ! (1 ∷ []) $
+        split ! $ move ! (1 ∷ []) $ use1 W (raw (fact 𝓤 (Told p))) (plans p) $ heard ! (Told p) (λ e. split ! $ move ! (1 ∷ []) $
         peeks ! P.the-row (Is P.the-row) (shows 𝓤 H A P.the-row) p (w₁ ∷ []) (λ isp.
         land ! (from ! (stop !)) (init ! 33 refl (LL.lawful P.the-type P′.the-laws 𝓤 H A W .typed p _ isp .0)) $
         rewrite ! 33 (λ (x : Val). ‵ (fat fullShare P′.mir l₅ 0 x)) (ap only (LL.tells P.the-type P′.the-laws p (w₁ ∷ []) isp)) refl $ drop ! $
@@ -444,7 +446,7 @@ decode-spec 𝓤 H 𝓜 𝓖 𝓡 =
     entered 𝓤 H (tripleOf 𝓤 H (𝓖 .A) dec.signature (dec.spec 𝓤 H (𝓖 .A) (𝓜 .mem) (𝓡 .run)))
     (tables 𝓤 H 𝓜 𝓡 code.env .C) (tables 𝓤 H 𝓜 𝓡 code.env .Λ) #key code.function (code.unfolded 𝓤 H 𝓜 𝓡)
     (decode-meets 𝓤 H (𝓖 .A) (givenOf 𝓤 H 𝓜 𝓖) (𝓜 .mem) (𝓡 .run) (tablesOf 𝓤 H 𝓜 (tables 𝓤 H 𝓜 𝓡 code.env))
-    (cited 𝓤 H (Plan-for 𝓤 H (𝓖 .A) (𝓜 .mem) (𝓡 .run)) 𝓜 𝓡 code.env plan-def.name plan-def.routine code.calls-network-tables·lent·plan-for (plan-thm.met 𝓤 H 𝓜 𝓖 𝓡))
+    (cited 𝓤 H (Plan-for 𝓤 H (𝓖 .A) (𝓜 .mem) (𝓡 .run)) 𝓜 𝓡 code.env plan-def.name plan-def.routine code.calls-network-plans·plan-for (plan-thm.met 𝓤 H 𝓜 𝓖 𝓡))
     (cited 𝓤 H (First-h 𝓤 H (𝓖 .A) (𝓜 .mem) (𝓡 .run)) 𝓜 𝓡 code.env first-h-def.name first-h-def.routine code.calls-network-tables·rows·first-route (first-h-thm.met 𝓤 H 𝓜 𝓖 𝓡))
     (cited 𝓤 H (First-b 𝓤 H (𝓖 .A) (𝓜 .mem) (𝓡 .run)) 𝓜 𝓡 code.env first-b-def.name first-b-def.routine code.calls-network-tables·rows·first-border (first-b-thm.met 𝓤 H 𝓜 𝓖 𝓡))
     (cited 𝓤 H (Fill-p 𝓤 H (𝓖 .A) (𝓜 .mem) (𝓡 .run)) 𝓜 𝓡 code.env fill-p-def.name fill-p-def.routine code.calls-network-tables·lent·fill-prefixes (fill-p-thm.met 𝓤 H 𝓜 𝓖 𝓡))

@@ -1,10 +1,10 @@
--- `network_tables::lent::answer_of` meets its contract: the check, and then the room. Assumes nothing.
+-- `network_plans::answer_of` meets its contract: the check, and then the room. Assumes nothing.
 use borrow.Author.Needs.{needs}
 use mathlib.Core.Path.{sym, ap, _∙_}
 use Rattle.network_data.specs.Answers.{checkedAnswer}
-use Rattle.network_tables.proofs.Plans.{answered-given, answered-refused}
-use Rattle.network_tables.proofs.lent.answer_of.Statement.{statement}
-use Rattle.network_tables.proofs.lent.answer_of.Tie as tie
+use Rattle.network_plans.proofs.Checks.{answered-given, answered-refused}
+use Rattle.network_plans.proofs.answer_of.Statement.{statement}
+use Rattle.network_plans.proofs.answer_of.Tie as tie
 
 check-requires : tie.Need-check-requires
 check-requires c κs = search needs

@@ -1,11 +1,11 @@
--- `network_tables::lent::roomy` meets its contract: at each `return` the tests that led there say which case of `roomFor` holds.
+-- `network_plans::roomy` meets its contract: at each `return` the tests that led there say which case of `roomFor` holds.
 -- Assumes nothing.
 use borrow.Author.Needs.{needs}
 use mathlib.Core.Path.{_∙_}
 use borrow.Author.Tests.{le-leb, lt-leb}
-use Rattle.network_tables.specs.Tables.{roomFor}
-use Rattle.network_tables.proofs.lent.roomy.Statement.{statement}
-use Rattle.network_tables.proofs.lent.roomy.Tie as tie
+use Rattle.network_plans.specs.Planned.{roomFor}
+use Rattle.network_plans.proofs.roomy.Statement.{statement}
+use Rattle.network_plans.proofs.roomy.Tie as tie
 
 no-room-requires : tie.Need-no-room-requires
 no-room-requires c κs = search needs
