@@ -17,7 +17,7 @@ use Rattle.network_framing.specs.Walk.{walk, walkIn}
 use Rattle.network_data.specs.Rules.{ended, values, checkFrom, checkValue}
 use Rattle.network_data.specs.Decode.{Prefix, prefixes, contents, allRoutes, allBorders, countsOf, decodeNetworkData}
 use Rattle.network_data.specs.Answers.{checkedAnswer}
-use Rattle.network_tables.specs.Tables as nd
+use Rattle.network_plans.specs.Tables as nd
 use Rattle.network_plans.specs.Planned.{roomFor}
 use Rattle.network_data.specs.declared.Counts.{Counts}
 use Rattle.network_data.specs.declared.Checked.{Checked}

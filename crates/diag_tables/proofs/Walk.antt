@@ -46,7 +46,7 @@ use Rattle.network_data.specs.declared.BorderRouterEntry.{BorderRouterEntry}
 use Rattle.network_data.specs.declared.Checked.{Checked}
 use Rattle.network_data.specs.Answers.{checkedAnswer}
 use Rattle.network_data.specs.Decode.{decodeNetworkData}
-use Rattle.network_tables.specs.Tables as nd
+use Rattle.network_plans.specs.Tables as nd
 use Rattle.network_data.proofs.PrefixEntry as TP
 use Rattle.network_data.proofs.PrefixEntry.Laws as TP′
 use Rattle.network_data.proofs.HasRouteEntry as TH

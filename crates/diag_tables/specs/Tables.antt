@@ -8,7 +8,7 @@ use lib.ListN.{length}
 use Rattle.refusal.specs.Answer.{Answer, given, absent, refused, thenDo, onGiven}
 use Rattle.network_data.specs.Decode.{Prefix, entryOf, allRoutes, allBorders, countsOf}
 use Rattle.network_plans.specs.Planned.{roomFor}
-use Rattle.network_tables.specs.Tables.{over}
+use Rattle.network_plans.specs.Tables.{over}
 use Rattle.network_data.specs.declared.Counts.{Counts}
 use Rattle.network_data.specs.declared.PrefixEntry.{PrefixEntry}
 use Rattle.network_data.specs.declared.HasRouteEntry.{HasRouteEntry}

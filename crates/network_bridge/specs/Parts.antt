@@ -7,7 +7,7 @@ use lib.Dec.{ltb}
 use Rattle.refusal.specs.Answer.{pick, Answer}
 use Rattle.network_data.specs.Decode.{Prefix}
 use Rattle.network_data.specs.Answers.{checkedAnswer}
-use Rattle.network_tables.specs.Tables.{Outcome, outcome, decoded}
+use Rattle.network_plans.specs.Tables.{Outcome, outcome, decoded}
 use Rattle.network_data.specs.declared.PrefixEntry.{PrefixEntry}
 use Rattle.network_data.specs.declared.HasRouteEntry.{HasRouteEntry}
 use Rattle.network_data.specs.declared.BorderRouterEntry.{BorderRouterEntry}

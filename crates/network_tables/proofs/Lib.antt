@@ -3,5 +3,4 @@ pub mod Chains
 pub mod Rowed
 pub mod Numbers
 pub mod Plans
-pub mod Agree
 pub mod Papers

@@ -7,7 +7,7 @@ use Rattle.network_data.specs.Answers.{checkedAnswer}
 use Rattle.network_data.proofs.Papers.{checked-tells}
 use Rattle.refusal.proofs.Papers.{Tells, tells, refusal-back, codeOf}
 use Rattle.network_tables.specs.Answers.{hasRouteAnswer, borderRouterAnswer, presenceAnswer, Copy, prefixCopy}
-use Rattle.network_tables.specs.Tables.{Outcome, outcome}
+use Rattle.network_plans.specs.Tables.{Outcome, outcome}
 use Rattle.network_data.specs.declared.PrefixEntry.{PrefixEntry}
 use Rattle.network_data.specs.declared.HasRouteEntry.{HasRouteEntry}
 use Rattle.network_data.specs.declared.BorderRouterEntry.{BorderRouterEntry}

@@ -17,7 +17,7 @@ use Rattle.network_data.specs.Decode.{Prefix, contents, entryOf, allRoutes, all
 use Rattle.network_data.specs.Answers.{checkedAnswer}
 use Rattle.network_tables.specs.Cursor.{firstRow, nextRow, RowHere, routeOf, borderOf, SpanHere, entryAt, spanEnd}
 use Rattle.network_plans.specs.Planned.{roomFor, answered, amount, Planned, planned, plannedFor}
-use Rattle.network_tables.specs.Tables.{Outcome, outcome, over, written, decoded}
+use Rattle.network_plans.specs.Tables.{Outcome, outcome, over, written, decoded}
 use Rattle.network_data.specs.declared.Counts.{Counts}
 use Rattle.network_plans.specs.declared.Plan.{Plan}
 use Rattle.network_tables.specs.declared.rows.Rows.{Rows}

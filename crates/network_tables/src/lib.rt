@@ -27,7 +27,7 @@ ghost use Rattle.network_data.specs.Decode.{Prefix, decodeNetworkData, allRoute
 ghost use Rattle.network_data.specs.Answers.{checkedAnswer};
 ghost use Rattle.network_tables.specs.Answers.{hasRouteAnswer, borderRouterAnswer, prefixCopy, copied, noEntry};
 ghost use Rattle.refusal.specs.Numbered.{nth};
-ghost use Rattle.network_tables.specs.Tables.{outcome, decoded};
+ghost use Rattle.network_plans.specs.Tables.{outcome, decoded};
 
 pub enum ReadHasRoute {
     Value(HasRouteEntry),

@@ -12,7 +12,7 @@ use Rattle.network_data.specs.declared.PrefixEntry.{PrefixEntry}
 use Rattle.network_tables.proofs.Papers.{border-router-tells, has-route-tells, outcome-tells, prefix-tells}
 use Rattle.network_tables.specs.Answers.{borderRouterAnswer, copied, hasRouteAnswer, prefixCopy}
 use Rattle.refusal.specs.Numbered.{nth}
-use Rattle.network_tables.specs.Tables.{decoded, outcome}
+use Rattle.network_plans.specs.Tables.{decoded, outcome}
 use Rattle.network_tables.specs.declared.ReadBorderRouter.{ReadBorderRouter}
 use Rattle.network_tables.specs.declared.ReadHasRoute.{ReadHasRoute}
 use Rattle.network_tables.specs.declared.ReadPrefix.{ReadPrefix}

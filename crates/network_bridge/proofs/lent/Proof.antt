@@ -10,7 +10,7 @@ use Rattle.tables.proofs.Elem.{struct-elem, enum-elem}
 use Rattle.tables.proofs.LendThree.{lent-meets}
 use Rattle.network_data.specs.Answers.{checkedAnswer}
 use Rattle.network_data.specs.Decode.{decodeNetworkData}
-use Rattle.network_tables.specs.Tables.{Outcome, outcome, decoded}
+use Rattle.network_plans.specs.Tables.{Outcome, outcome, decoded}
 use Rattle.network_bridge.specs.Parts.{places, leftWhole, outcomeOf}
 use Rattle.network_data.proofs.Checked as O
 use Rattle.network_data.proofs.Checked.Laws as O′

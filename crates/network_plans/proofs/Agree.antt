@@ -1,17 +1,17 @@
--- The record i that `decode` leaves in a table is the one that the call by number i gives.
+-- The record i that `network_tables::decode` leaves in a table is the one that the call by number i gives, and past the counts the one that stood there.
 -- Assumes nothing.
 use mathlib.Core.Path.{_≡_, refl, sym, ap, _∙_}
 use mathlib.Core.List.{List, [], _∷_, _++_, map}
-use Prim.Native.Nat.{ℕ, zero, suc, _<_}
+use Prim.Native.Nat.{ℕ, zero, suc, _≤_, _<_}
 use native.Mathlib.Omega.{arith}
-use lib.ListN.{length, length-map}
+use lib.ListN.{length, length-map, drop}
 use lib.Dec.{leb}
 use Rattle.refusal.specs.Answer.{Answer, given, absent, refused, thenDo}
 use Rattle.laws.proofs.Tests.{pick-all}
 use Rattle.network_data.specs.Decode.{Prefix, decodeNetworkData, allRoutes, allBorders, countsOf, entryOf}
 use Rattle.refusal.specs.Numbered.{nth}
 use Rattle.network_plans.specs.Planned.{roomFor}
-use Rattle.network_tables.specs.Tables.{Outcome, written, decoded}
+use Rattle.network_plans.specs.Tables.{Outcome, written, decoded}
 use Rattle.network_data.specs.declared.Counts.{Counts}
 use Rattle.network_data.specs.declared.PrefixEntry.{PrefixEntry}
 use Rattle.network_data.specs.declared.HasRouteEntry.{HasRouteEntry}
@@ -22,6 +22,19 @@ unfolding nth
 nth-front [] ys i h = absurd (omega arith)
 nth-front (x ∷ xs) ys zero h = refl
 nth-front (x ∷ xs) ys (suc i) h = nth-front xs ys i (omega arith)
+
+past-all : {A : Type 0} (xs : List A) (i : ℕ) → length xs ≤ i → nth (xs ++ []) i ≡ absent
+unfolding nth
+past-all [] i h = refl
+past-all (x ∷ xs) zero h = absurd (omega arith)
+past-all (x ∷ xs) (suc i) h = past-all xs i (omega arith)
+
+nth-past : {A : Type 0} (new old : List A) (i : ℕ) → length new ≤ i → nth (new ++ drop (length new) old) i ≡ nth old i
+unfolding nth
+nth-past [] old i h = refl
+nth-past (x ∷ new) old zero h = absurd (omega arith)
+nth-past (x ∷ new) [] (suc i) h = past-all new i (omega arith)
+nth-past (x ∷ new) (y ∷ old) (suc i) h = nth-past new old i (omega arith)
 
 -- what is given is c itself
 abbrev Only : Counts → Answer Counts → Type 0
@@ -37,11 +50,14 @@ room-only c p h b =
     pick-all (Only c) (leb (c .«border_routers») b) (given c) (refused 11 0 0) (λ _. refl) (λ _. tt)) (λ _. tt)) (λ _. tt)
 
 module _ (P : List PrefixEntry) (H : List HasRouteEntry) (B : List BorderRouterEntry) where
-  -- the tables of an outcome are, record by record, those of the lists
+  -- the tables of an outcome are, record by record, those of the lists, and then as they were
   pub record Agrees (d : Answer (List Prefix)) (o : Outcome) (c : Counts) : Type 0 where
     pub prefixes : (i : ℕ) → i < c .prefixes → nth (o .prefixes) i ≡ thenDo d (λ (ps : List Prefix). nth (map entryOf ps) i)
     pub routes : (i : ℕ) → i < c .«has_routes» → nth (o .routes) i ≡ thenDo d (λ (ps : List Prefix). nth (allRoutes ps) i)
     pub borders : (i : ℕ) → i < c .«border_routers» → nth (o .borders) i ≡ thenDo d (λ (ps : List Prefix). nth (allBorders ps) i)
+    pub prefixesStay : (i : ℕ) → c .prefixes ≤ i → nth (o .prefixes) i ≡ nth P i
+    pub routesStay : (i : ℕ) → c .«has_routes» ≤ i → nth (o .routes) i ≡ nth H i
+    pub bordersStay : (i : ℕ) → c .«border_routers» ≤ i → nth (o .borders) i ≡ nth B i
 
   written-agrees : (ps : List Prefix) (a : Answer Counts) → Only (countsOf ps) a → (c : Counts) → written ps a P H B .answer ≡ given c → Agrees (given ps) (written ps a P H B) c
   unfolding written countsOf
@@ -52,6 +68,9 @@ module _ (P : List PrefixEntry) (H : List HasRouteEntry) (B : List BorderRouterE
         prefixes = λ i l. nth-front (map entryOf ps) _ i (simp length-map (omega (arith, ap (λ (x : Counts). x .prefixes) n)));
         routes = λ i l. nth-front (allRoutes ps) _ i (omega (arith, ap (λ (x : Counts). x .«has_routes») n));
         borders = λ i l. nth-front (allBorders ps) _ i (omega (arith, ap (λ (x : Counts). x .«border_routers») n));
+        prefixesStay = λ i l. nth-past (map entryOf ps) P i (simp length-map (omega (arith, ap (λ (x : Counts). x .prefixes) n)));
+        routesStay = λ i l. nth-past (allRoutes ps) H i (omega (arith, ap (λ (x : Counts). x .«has_routes») n));
+        bordersStay = λ i l. nth-past (allBorders ps) B i (omega (arith, ap (λ (x : Counts). x .«border_routers») n));
       }
   written-agrees ps absent o c e = absurd (let z : _≡_ {A = ℕ} 0 1 = cc in omega arith)
   written-agrees ps (refused n p i) o c e = absurd (let z : _≡_ {A = ℕ} 0 1 = cc in omega arith)
