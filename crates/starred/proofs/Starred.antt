@@ -1,7 +1,8 @@
 -- Every starred line of the bench sheet holds of the definitions, by one test that computes over the table.
 -- Assumes nothing.
 use Rattle.refusal.specs.Every.{Every}
-use Rattle.wire.specs.Be.{beFrom, be, bytesOf}
+use Rattle.wire_bytes.specs.Bytes.{bytesOf}
+use Rattle.wire.specs.Be.{beFrom, be}
 use Rattle.tlv.specs.Entries.{valued, long, first, contents, step, frames, framing}
 use Rattle.tlv.specs.Limits.{limited, framed}
 use Rattle.tlv_writing.specs.Encode.{header, encode, encodeAll, sized}

@@ -7,7 +7,8 @@ use mathlib.Core.List.{List}
 use lib.Dec.{eqb}
 use Rattle.refusal.specs.Answer.{Answer, given, absent}
 use Rattle.refusal.specs.Number.{refusalAnswer}
-use Rattle.wire.specs.Be.{be, bytesOf}
+use Rattle.wire_bytes.specs.Bytes.{bytesOf}
+use Rattle.wire.specs.Be.{be}
 use Rattle.timestamps.specs.declared.Timestamp.{Timestamp}
 use Rattle.timestamps.specs.declared.ReadTimestamp.{ReadTimestamp}
 use Rattle.timestamps.specs.declared.ReadTimestamp.the-variants as t

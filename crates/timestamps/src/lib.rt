@@ -73,6 +73,6 @@ impl Timestamp {
     pub fn to_value(self) -> [u8; 8]
         ensures { λ r. ⌜ r ≡ timestampBytes self ⌝ }
     {
-        wire::u64_bytes(self.0)
+        wire_bytes::u64_bytes(self.0)
     }
 }

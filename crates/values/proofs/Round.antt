@@ -7,7 +7,8 @@ use native.Mathlib.Omega.{arith}
 use lib.ListN.{length}
 use Rattle.refusal.specs.Answer.{given, onGiven}
 use Rattle.refusal.specs.Every.{Bytes}
-use Rattle.wire.specs.Be.{bytesOf, ruled}
+use Rattle.wire_bytes.specs.Bytes.{bytesOf}
+use Rattle.wire.specs.Be.{ruled}
 use Rattle.wire.proofs.Bes.{ruled-is}
 use Rattle.wire.proofs.Round.{be-bytes, bytes-read, length-bytes}
 use Rattle.values.specs.Typed.{channelOf, channelBytes, policyOf, policyBytes}

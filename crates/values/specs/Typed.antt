@@ -5,7 +5,8 @@ use mathlib.Core.List.{List, _∷_, _++_}
 use lib.ListN.{take, drop, getD}
 use Rattle.refusal.specs.Answer.{Answer, given, absent}
 use Rattle.refusal.specs.Number.{refusalAnswer}
-use Rattle.wire.specs.Be.{be, bytesOf}
+use Rattle.wire_bytes.specs.Bytes.{bytesOf}
+use Rattle.wire.specs.Be.{be}
 use Rattle.values.specs.declared.Channel.{Channel}
 use Rattle.values.specs.declared.SecurityPolicy.{SecurityPolicy}
 use Rattle.values.specs.declared.ReadChannel.{ReadChannel}

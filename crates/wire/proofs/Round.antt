@@ -8,7 +8,8 @@ use native.Mathlib.Nat.{zero-add, add-zero, pow-suc, div-add-mod'}
 use lib.ListN.{length, length-append}
 use Rattle.refusal.specs.Every.{Bytes}
 use Rattle.laws.proofs.Parts.{every-append}
-use Rattle.wire.specs.Be.{beFrom, be, bytesOf}
+use Rattle.wire_bytes.specs.Bytes.{bytesOf}
+use Rattle.wire.specs.Be.{beFrom, be}
 
 be-last : (x : ℕ) (s : List ℕ) (b : ℕ) → beFrom x (s ++ (b ∷ [])) ≡ beFrom x s * 256 + b
 unfolding beFrom

@@ -1,7 +1,7 @@
 -- Numbers of a fixed length: "Numbers are big-endian" (document 01), so the upper byte is first.
 -- Assumes nothing.
-use Prim.Native.Nat.{ℕ, zero, suc, _+_, _*_, _/_, _%_}
-use mathlib.Core.List.{List, [], _∷_, _++_}
+use Prim.Native.Nat.{ℕ, _+_, _*_}
+use mathlib.Core.List.{List, [], _∷_}
 use lib.ListN.{length}
 use lib.Dec.{ltb, eqb}
 use Rattle.refusal.specs.Sizes.{mostBytes}
@@ -34,11 +34,6 @@ ruled k place v = pick (eqb (length v) k) (given v) (wrongLength place (length v
 -- the number that it spells
 unfoldable pub fixed : (k place : ℕ) → List ℕ → Answer ℕ
 fixed k place v = onGiven be (ruled k place v)
-
--- the lower k bytes of x, the upper one first
-unfoldable pub bytesOf : (k : ℕ) → ℕ → List ℕ
-bytesOf zero x = []
-bytesOf (suc k) x = bytesOf k (x / 256) ++ (x % 256 ∷ [])
 
 abbrev pub answer16 : Read16 → Answer ℕ
 answer16 (v16.Value x) = given x

@@ -1,11 +1,11 @@
-// Numbers of 2, 4 and 8 bytes, big-endian, read from values of exactly that length and written.
+// Numbers of 2, 4 and 8 bytes, big-endian, read from values of exactly that length.
 use refusal::Fault;
 use refusal::Refusal;
 ghost use mathlib.Core.Path.{_≡_};
 ghost use Prim.Native.Nat.{ℕ, _^_, _≤_, _<_};
 ghost use lib.ListN.{length};
 ghost use Rattle.refusal.specs.Number.{refusalAnswer};
-ghost use Rattle.wire.specs.Be.{be, wrongLength, fixed, bytesOf, answer16, answer32, answer64};
+ghost use Rattle.wire.specs.Be.{be, wrongLength, fixed, answer16, answer32, answer64};
 
 // A number that was read. `Absent` is for the queries that find no value to read.
 pub enum Read16 {
@@ -86,45 +86,4 @@ pub fn read_u64(value: &[u8], place: usize) -> Read64
         return Read64::Refused(misfit(value.len(), place));
     }
     Read64::Value(be_value(value))
-}
-
-// The bytes of a number.
-pub fn u16_bytes(x: u16) -> [u8; 2]
-    ensures { λ r. ⌜ r ≡ bytesOf 2 x ⌝ }
-{
-    [(x / 256 % 256) as u8, (x % 256) as u8]
-}
-
-pub fn u32_bytes(x: u32) -> [u8; 4]
-    ensures { λ r. ⌜ r ≡ bytesOf 4 x ⌝ }
-{
-    let y = x / 256;
-    let z = y / 256;
-    [
-        (z / 256 % 256) as u8,
-        (z % 256) as u8,
-        (y % 256) as u8,
-        (x % 256) as u8,
-    ]
-}
-
-pub fn u64_bytes(x: u64) -> [u8; 8]
-    ensures { λ r. ⌜ r ≡ bytesOf 8 x ⌝ }
-{
-    let b6 = x / 256;
-    let b5 = b6 / 256;
-    let b4 = b5 / 256;
-    let b3 = b4 / 256;
-    let b2 = b3 / 256;
-    let b1 = b2 / 256;
-    [
-        (b1 / 256 % 256) as u8,
-        (b1 % 256) as u8,
-        (b2 % 256) as u8,
-        (b3 % 256) as u8,
-        (b4 % 256) as u8,
-        (b5 % 256) as u8,
-        (b6 % 256) as u8,
-        (x % 256) as u8,
-    ]
 }

@@ -1,7 +1,7 @@
 -- `values::SecurityPolicy::to_value` meets its contract: the definition, computed.
 -- Assumes nothing.
 use mathlib.Core.Path.{refl}
-use Rattle.wire.specs.Be.{bytesOf}
+use Rattle.wire_bytes.specs.Bytes.{bytesOf}
 use borrow.Author.Needs.{needs}
 use Rattle.values.proofs.SecurityPolicy.to_value.Statement.{statement}
 use Rattle.values.proofs.SecurityPolicy.to_value.Tie as tie

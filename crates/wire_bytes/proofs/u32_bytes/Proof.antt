@@ -1,10 +1,10 @@
--- `wire::u32_bytes` meets its contract: the definition, computed.
+-- `wire_bytes::u32_bytes` meets its contract: the definition, computed.
 -- Assumes nothing.
 use mathlib.Core.Path.{refl}
-use Rattle.wire.specs.Be.{bytesOf}
+use Rattle.wire_bytes.specs.Bytes.{bytesOf}
 use borrow.Author.Needs.{needs}
-use Rattle.wire.proofs.u32_bytes.Statement.{statement}
-use Rattle.wire.proofs.u32_bytes.Tie as tie
+use Rattle.wire_bytes.proofs.u32_bytes.Statement.{statement}
+use Rattle.wire_bytes.proofs.u32_bytes.Tie as tie
 
 cast-t6 : tie.Need-cast-t6
 cast-t6 c = search needs

@@ -1,10 +1,10 @@
--- `wire::u64_bytes` meets its contract: the definition, computed.
+-- `wire_bytes::u64_bytes` meets its contract: the definition, computed.
 -- Assumes nothing.
 use mathlib.Core.Path.{refl}
-use Rattle.wire.specs.Be.{bytesOf}
+use Rattle.wire_bytes.specs.Bytes.{bytesOf}
 use borrow.Author.Needs.{needs}
-use Rattle.wire.proofs.u64_bytes.Statement.{statement}
-use Rattle.wire.proofs.u64_bytes.Tie as tie
+use Rattle.wire_bytes.proofs.u64_bytes.Statement.{statement}
+use Rattle.wire_bytes.proofs.u64_bytes.Tie as tie
 
 cast-t10 : tie.Need-cast-t10
 cast-t10 c = search needs

@@ -1,10 +1,10 @@
--- `wire::u16_bytes` meets its contract: the definition, computed.
+-- `wire_bytes::u16_bytes` meets its contract: the definition, computed.
 -- Assumes nothing.
 use mathlib.Core.Path.{refl}
-use Rattle.wire.specs.Be.{bytesOf}
+use Rattle.wire_bytes.specs.Bytes.{bytesOf}
 use borrow.Author.Needs.{needs}
-use Rattle.wire.proofs.u16_bytes.Statement.{statement}
-use Rattle.wire.proofs.u16_bytes.Tie as tie
+use Rattle.wire_bytes.proofs.u16_bytes.Statement.{statement}
+use Rattle.wire_bytes.proofs.u16_bytes.Tie as tie
 
 cast-t4 : tie.Need-cast-t4
 cast-t4 c = search needs
