@@ -1,4 +1,4 @@
-//! The fields of the Rust's records as one number: crates/payload_sums/specs/Sums.antt says the same of the library's.
+//! The fields of the Rust's records as one number: the specs/Sums.antt of crates/value_sums and crates/payload_sums say the same of the library's.
 use meshcop::meshcop::diag::{ChildTableEntry, Connectivity, LeaderData, MacCounters, ModeData, NetDiagData, NetworkData, Route64};
 use std::net::Ipv6Addr;
 

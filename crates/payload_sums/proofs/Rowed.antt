@@ -21,9 +21,11 @@ use Rattle.diag.specs.declared.OptPart.{OptPart}
 use Rattle.diag.specs.declared.OptPart.the-variants as p
 use Rattle.diag.specs.declared.NetDiagData.{NetDiagData}
 use Rattle.diag.proofs.Callers.{decoded-given, part-there}
-use Rattle.payload_sums.specs.Sums.{plus, orZero}
+use Rattle.payload_sums.specs.Sums.{orZero}
 use Rattle.payload_sums.specs.Rows.{summed, listOf, listsOnto, inPart, ofPart, Inside}
-use Rattle.payload_sums.proofs.Sizes.{adds, said-part}
+use Rattle.value_sums.specs.Sums.{plus}
+use Rattle.value_sums.proofs.Adds.{adds}
+use Rattle.payload_sums.proofs.Sizes.{said-part}
 
 -- ---- a loop over numbered rows
 pub summed-more : (f : ℕ → ℕ) (n k m x : ℕ) → n ≡ summed f k → m ≡ plus n x → x ≡ f k → m ≡ summed f (k + 1)

@@ -1,17 +1,13 @@
--- Sums, one number after the other, and parts of a payload in them.
+-- Parts of a payload in a sum.
 -- Assumes nothing.
-use mathlib.Core.Path.{_≡_, refl, ap, _∙_}
+use mathlib.Core.Path.{_≡_, refl}
 use mathlib.Core.List.{List}
 use Prim.Native.Nat.{ℕ}
 use Rattle.refusal.specs.Answer.{Answer, given, absent, refused, onGiven}
 use Rattle.diag_rows.specs.Rows.{Part}
 use Rattle.diag_entries.specs.Parts.{Said}
 use Rattle.diag_entries.specs.Answers.{saidAt}
-use Rattle.payload_sums.specs.Sums.{plus, orZero, partLen, size}
-
--- one more number
-pub adds : {r n m x y : ℕ} → r ≡ plus n x → n ≡ m → x ≡ y → r ≡ plus m y
-adds {m = m} {x = x} e l h = e ∙ ap (λ k. plus k x) l ∙ ap (plus m) h
+use Rattle.payload_sums.specs.Sums.{orZero, partLen, size}
 
 -- g says of a part with what is said there what h says of the part
 pub said-part : {A : Type 0} (f : List ℕ → A) (s : List ℕ) (g : Said A → ℕ) (h : Part → ℕ) → ((p : Part) → h p ≡ g (saidAt f s p)) → (a : Answer Part)

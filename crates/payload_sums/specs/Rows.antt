@@ -16,7 +16,8 @@ use Rattle.diag_rows.specs.declared.ChildIpv6AddrInfo.{ChildIpv6AddrInfo}
 use Rattle.diag_entries.specs.Parts.{Said, allOf}
 use Rattle.diag.specs.Diag.{Diag}
 use Rattle.diag_entries.specs.Answers.{bytesAt}
-use Rattle.payload_sums.specs.Sums.{plus, onto, orZero, modeSum, valuesSum, partsSum}
+use Rattle.value_sums.specs.Sums.{plus, onto, modeSum}
+use Rattle.payload_sums.specs.Sums.{orZero, valuesSum, partsSum}
 
 -- f 0, f 1, .. f (n - 1) added up
 unfoldable pub summed : (ℕ → ℕ) → (n : ℕ) → ℕ

@@ -1,29 +1,19 @@
 -- What a diagnostic record says as one number, for a caller in another language: the sum of all its fields, modulo 2^64.
 -- Assumes nothing.
-use Prim.Native.Nat.{ℕ, _+_, _%_, _^_}
-use mathlib.Core.Bool.{Bool, true, false}
-use mathlib.Core.List.{List, [], _∷_}
+use Prim.Native.Nat.{ℕ}
+use mathlib.Core.List.{[], _∷_}
 use lib.IntN.{ℤ}
 use lib.Dec.{eqb}
 use mir.Syntax.{w8}
 use mir.Val.{ofZ}
 use Rattle.refusal.specs.Answer.{pick, Answer, given, absent, refused}
-use Rattle.network_data.specs.declared.Counts.{Counts}
 use Rattle.diag_values.specs.Values.{ConnectivityValue}
 use Rattle.diag_rows.specs.Rows.{Part}
-use Rattle.diag_values.specs.declared.ModeData.{ModeData}
 use Rattle.diag_values.specs.declared.LeaderData.{LeaderData}
 use Rattle.diag_values.specs.declared.MacCounters.{MacCounters}
 use Rattle.diag_entries.specs.Parts.{Said}
 use Rattle.diag.specs.Diag.{NetworkDataValue, Diag}
-
-unfoldable pub plus : ℕ → ℕ → ℕ
-plus a b = (a + b) % 2 ^ 64
-
--- numbers added to what there was, one by one
-abbrev pub onto : ℕ → List ℕ → ℕ
-onto n [] = n
-onto n (x ∷ xs) = onto (plus n x) xs
+use Rattle.value_sums.specs.Sums.{onto, modeSum, countsSum}
 
 -- a field that is missing counts 0
 abbrev pub orZero : {A : Type 0} → (A → ℕ) → Answer A → ℕ
@@ -34,16 +24,9 @@ orZero f (refused n p i) = 0
 abbrev pub number : Answer ℕ → ℕ
 number a = orZero (λ n. n) a
 
-abbrev pub flag : Bool → ℕ
-flag true = 1
-flag false = 0
-
 -- a priority of 1, 0, -1 or another, by the byte that stands for it
 abbrev pub rank : ℤ → ℕ
 rank p = pick (eqb (ofZ w8 p) 1) 1 (pick (eqb (ofZ w8 p) 0) 2 (pick (eqb (ofZ w8 p) 255) 3 4))
-
-abbrev pub modeSum : ModeData → ℕ
-modeSum m = onto 0 (flag (m .«rx_on_when_idle») ∷ flag (m .«is_mtd») ∷ flag (m .«requires_full_network_data») ∷ [])
 
 abbrev pub connectivitySum : ConnectivityValue → ℕ
 connectivitySum c =
@@ -67,9 +50,6 @@ countersSum c =
     ∷ c .«if_out_broadcast_pkts»
     ∷ c .«if_out_discards»
     ∷ [])
-
-abbrev pub countsSum : Counts → ℕ
-countsSum c = onto 0 (c .prefixes ∷ c .«has_routes» ∷ c .«border_routers» ∷ [])
 
 -- Network Data counts its records
 abbrev pub networkSum : Said NetworkDataValue → ℕ

@@ -1,7 +1,5 @@
 // The rows of a diagnostic record as one number, each read by the library's call for it.
-use crate::mode_sum;
 use crate::sums::parts_sum;
-use crate::sums::plus;
 use crate::sums::values_sum;
 use diag::NetDiagData;
 use diag::OptPart;
@@ -11,6 +9,8 @@ use diag_rows::ReadChild;
 use route64::Route64;
 use route64::RouteDataEntry;
 use tlv_last::Found;
+use value_sums::mode_sum;
+use value_sums::plus;
 ghost use mathlib.Core.Path.{_≡_};
 ghost use Rattle.diag.specs.Diag.{decode};
 ghost use Rattle.diag.specs.Answers.{optPart, diagOf};

@@ -1,6 +1,4 @@
 // The fields of a diagnostic record as one number, so that none of them is read in vain.
-use crate::counts_sum;
-use crate::mode_sum;
 use diag::NetDiagData;
 use diag::OptConnectivity;
 use diag::OptLeaderData;
@@ -14,22 +12,14 @@ use diag_values::LeaderData;
 use diag_values::MacCounters;
 use diag_values::OptU8;
 use diag_values::OptU16;
+use value_sums::counts_sum;
+use value_sums::mode_sum;
+use value_sums::plus;
 ghost use mathlib.Core.Path.{_≡_};
 ghost use Rattle.diag_values.specs.Answers.{optAnswer8, optAnswer16, connectivityPaper};
 ghost use Rattle.diag.specs.Answers.{optAnswer32, optMode, optConnectivity, optLeaderData, optMacCounters, optPart, optNetworkData, diagOf};
-ghost use Rattle.payload_sums.specs.Sums.{plus, orZero, number, flag, rank, modeSum, connectivitySum, leaderSum, countersSum, networkSum, partLen, valuesSum, partsSum};
-
-pub(crate) fn plus(a: u64, b: u64) -> u64
-    ensures { λ r. ⌜ r ≡ plus a b ⌝ }
-{
-    std::num::wrapping_add_u64(a, b)
-}
-
-pub(crate) fn flag(b: bool) -> u64
-    ensures { λ r. ⌜ r ≡ flag b ⌝ }
-{
-    if b { 1 } else { 0 }
-}
+ghost use Rattle.value_sums.specs.Sums.{modeSum};
+ghost use Rattle.payload_sums.specs.Sums.{orZero, number, rank, connectivitySum, leaderSum, countersSum, networkSum, partLen, valuesSum, partsSum};
 
 // A field that may be missing.
 fn of_u8(x: OptU8) -> u64

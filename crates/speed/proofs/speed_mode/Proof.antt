@@ -4,7 +4,7 @@ use mathlib.Core.Path.{_∙_, ap, sym}
 use Rattle.refusal.specs.Answer.{onGiven}
 use Rattle.diag_values.specs.Answers.{modeAnswer}
 use Rattle.speed.specs.Code.{code}
-use Rattle.payload_sums.specs.Sums.{modeSum}
+use Rattle.value_sums.specs.Sums.{modeSum}
 use borrow.Author.Needs.{needs}
 use Rattle.speed.proofs.speed_mode.Statement.{statement}
 use Rattle.speed.proofs.speed_mode.Tie as tie

@@ -4,7 +4,7 @@ use mathlib.Core.Path.{_∙_, ap, sym}
 use Rattle.refusal.specs.Answer.{onGiven}
 use Rattle.network_data.specs.Answers.{checkedAnswer}
 use Rattle.speed.specs.Code.{code}
-use Rattle.payload_sums.specs.Sums.{countsSum}
+use Rattle.value_sums.specs.Sums.{countsSum}
 use borrow.Author.Needs.{needs}
 use Rattle.speed.proofs.speed_network.Statement.{statement}
 use Rattle.speed.proofs.speed_network.Tie as tie

@@ -6,7 +6,7 @@ use native.Mathlib.Omega.{arith}
 use Rattle.diag_rows.specs.Answers.{addressListAnswer}
 use Rattle.payload_sums.specs.Sums.{orZero}
 use Rattle.payload_sums.specs.Rows.{listSum}
-use Rattle.payload_sums.proofs.Sizes.{adds}
+use Rattle.value_sums.proofs.Adds.{adds}
 use Rattle.payload_sums.proofs.Rowed.{list-inside}
 use borrow.Author.Needs.{needs}
 use Rattle.payload_sums.proofs.rows.list_sum.Statement.{statement}

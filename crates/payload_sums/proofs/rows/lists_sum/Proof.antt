@@ -1,6 +1,6 @@
 -- `payload_sums::rows::lists_sum` meets its contract. The invariant: the lists from at on, added to what is summed so far, make the sum of all.
 -- Assumes nothing.
-use Rattle.payload_sums.specs.Sums.{plus}
+use Rattle.value_sums.specs.Sums.{plus}
 use mathlib.Core.Path.{_≡_, sym, ap, _∙_}
 use Prim.Native.Nat.{_-_, _≤_}
 use native.Mathlib.Omega.{arith}

@@ -5,7 +5,7 @@ use Rattle.route64.specs.Routes.{routeOf}
 use Rattle.diag_rows.specs.Rows.{childRows, addresses}
 use Rattle.diag.specs.Answers.{optPart, diagOf}
 use Rattle.payload_sums.specs.Rows.{routes, children, addressesSum, payloadSum}
-use Rattle.payload_sums.proofs.Sizes.{adds}
+use Rattle.value_sums.proofs.Adds.{adds}
 use Rattle.payload_sums.proofs.Rowed.{routes-inside, children-inside, addresses-inside, of-part}
 use Rattle.payload_sums.proofs.rows.payload_sum.Statement.{statement}
 use Rattle.payload_sums.proofs.rows.payload_sum.Tie as tie

@@ -5,7 +5,8 @@ use mathlib.Core.Path.{_∙_, refl}
 use Rattle.diag.specs.Diag.{raw}
 use Rattle.diag.specs.Answers.{optPart, diagOf}
 use Rattle.payload_sums.specs.Sums.{partsSum}
-use Rattle.payload_sums.proofs.Sizes.{adds, part-size}
+use Rattle.value_sums.proofs.Adds.{adds}
+use Rattle.payload_sums.proofs.Sizes.{part-size}
 use Rattle.payload_sums.proofs.sums.parts_sum.Statement.{statement}
 use Rattle.payload_sums.proofs.sums.parts_sum.Tie as tie
 

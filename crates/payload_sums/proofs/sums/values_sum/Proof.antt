@@ -3,7 +3,7 @@
 use mathlib.Core.Path.{refl}
 use Rattle.diag.specs.Answers.{diagOf}
 use Rattle.payload_sums.specs.Sums.{valuesSum}
-use Rattle.payload_sums.proofs.Sizes.{adds}
+use Rattle.value_sums.proofs.Adds.{adds}
 use Rattle.payload_sums.proofs.sums.values_sum.Statement.{statement}
 use Rattle.payload_sums.proofs.sums.values_sum.Tie as tie
 

@@ -1,9 +1,9 @@
--- `payload_sums::sums::plus` meets its contract.
+-- `value_sums::plus` meets its contract.
 -- Assumes nothing.
 use borrow.Author.Needs.{needs}
-use Rattle.payload_sums.specs.Sums.{plus}
-use Rattle.payload_sums.proofs.sums.plus.Statement.{statement}
-use Rattle.payload_sums.proofs.sums.plus.Tie as tie
+use Rattle.value_sums.specs.Sums.{plus}
+use Rattle.value_sums.proofs.plus.Statement.{statement}
+use Rattle.value_sums.proofs.plus.Tie as tie
 
 wrapping-add-u64-requires : tie.Need-wrapping-add-u64-requires
 wrapping-add-u64-requires c κs = tt

@@ -1,9 +1,9 @@
--- `payload_sums::counts_sum` meets its contract.
+-- `value_sums::counts_sum` meets its contract.
 -- Assumes nothing.
-use Rattle.payload_sums.proofs.Sizes.{adds}
+use Rattle.value_sums.proofs.Adds.{adds}
 use mathlib.Core.Path.{refl}
-use Rattle.payload_sums.proofs.counts_sum.Statement.{statement}
-use Rattle.payload_sums.proofs.counts_sum.Tie as tie
+use Rattle.value_sums.proofs.counts_sum.Statement.{statement}
+use Rattle.value_sums.proofs.counts_sum.Tie as tie
 
 plus-requires : tie.Need-plus-requires
 plus-requires c κs = tt

@@ -1,9 +1,9 @@
--- `payload_sums::mode_sum` meets its contract.
+-- `value_sums::mode_sum` meets its contract.
 -- Assumes nothing.
-use Rattle.payload_sums.proofs.Sizes.{adds}
+use Rattle.value_sums.proofs.Adds.{adds}
 use mathlib.Core.Path.{refl}
-use Rattle.payload_sums.proofs.mode_sum.Statement.{statement}
-use Rattle.payload_sums.proofs.mode_sum.Tie as tie
+use Rattle.value_sums.proofs.mode_sum.Statement.{statement}
+use Rattle.value_sums.proofs.mode_sum.Tie as tie
 
 flag-requires : tie.Need-flag-requires
 flag-requires c κs = tt
