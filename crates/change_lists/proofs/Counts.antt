@@ -16,7 +16,7 @@ use Rattle.laws.proofs.Tests.{by-test}
 use Rattle.tlv.specs.Entries.{Stop, clean, cutAt}
 use Rattle.change_lists.specs.Operations.{remove, OpAt, opAt, Listed, endsWith, after, opsOf, placeOfNextOp, limitedOps, operations}
 use Rattle.change_lists.proofs.Reading.{opsFrom, ops-start}
-use Rattle.change_lists.proofs.Limits.{Read, was-given}
+use Rattle.change_lists.proofs.Given.{Read, was-given}
 
 module _ (i : ℕ) where
   tallyBy : ℕ → ℕ → Stop → List OpAt → Answer ℕ

@@ -1,11 +1,5 @@
-pub mod Lasts
-pub mod Folds
-pub mod Weights
-pub mod Backs
 pub mod Reading
-pub mod Limits
-pub mod Effects
-pub mod Demand
+pub mod Given
 pub mod Papers
 pub mod Places
 pub mod Counts

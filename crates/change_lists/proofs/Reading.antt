@@ -1,5 +1,5 @@
 -- Reading change lists: what was read from bytes is written in bytes again, and no longer; and the operations from a place on are one step,
--- then the operations from the next place. No proof but these and Backs.antt looks at the fuel.
+-- then the operations from the next place. No proof but these and change_folds/proofs/Backs.antt looks at the fuel.
 -- Assumes nothing.
 use mathlib.Core.Path.{_≡_, refl, sym, ap, _∙_}
 use mathlib.Core.Bool.{_&&_}
@@ -16,8 +16,7 @@ use Rattle.refusal.specs.Every.{Every, Bytes}
 use Rattle.tlv.specs.Entries.{First, none, cut, one, valued, long, first}
 use Rattle.tlv_writing.specs.Encode.{header, encode}
 use Rattle.tlv_writing.proofs.Encodes.{header-short, header-long}
-use Rattle.change_lists.specs.Operations.{Op, FirstOp, nothing, bad, operation, setOf, removalOf, firstOp, OpAt, opAt, Listed, after, opStep, opsIn, opsOf, bare}
-use Rattle.change_lists.specs.Fold.{encodeOp, encodeOps}
+use Rattle.change_lists.specs.Operations.{Op, FirstOp, nothing, bad, operation, setOf, removalOf, firstOp, OpAt, opAt, Listed, after, opStep, opsIn, opsOf, bare, encodeOp, encodeOps}
 use Rattle.laws.proofs.Parts.{every-append, every-parts, every-take, every-drop}
 
 -- ---- what stands first

@@ -3,12 +3,13 @@
 -- Assumes nothing.
 use Prim.Native.Nat.{ℕ, zero, suc, _+_, _-_}
 use mathlib.Core.Bool.{_&&_}
-use mathlib.Core.List.{List, [], _∷_}
+use mathlib.Core.List.{List, [], _∷_, _++_}
 use lib.ListN.{length, getD}
 use lib.Dec.{ltb, eqb}
 use Rattle.refusal.specs.Sizes.{mostBytes, mostEntries}
 use Rattle.refusal.specs.Answer.{pick, Answer, given, refused}
 use Rattle.tlv.specs.Entries.{First, none, cut, one, first, Content, content, Stop, clean, cutAt}
+use Rattle.tlv_writing.specs.Encode.{encode}
 
 pub data Op : Type 0 where
   set : Content → Op
@@ -75,6 +76,15 @@ placeOfNextOp os = getD os mostEntries (opAt 0 (remove 0)) .place
 unfoldable pub bare : List OpAt → List Op
 bare [] = []
 bare (o ∷ os) = o .op ∷ bare os
+
+-- operations as they are written
+unfoldable pub encodeOp : Op → List ℕ
+encodeOp (set c) = 83 ∷ 69 ∷ encode (c .ty) (c .value)
+encodeOp (remove t) = 82 ∷ 77 ∷ t ∷ []
+
+unfoldable pub encodeOps : List Op → List ℕ
+encodeOps [] = []
+encodeOps (o ∷ os) = encodeOp o ++ encodeOps os
 
 unfoldable pub limitedOps : (input : ℕ) → Stop → List OpAt → Answer (List OpAt)
 limitedOps i (cutAt p) os = refused 9 p i

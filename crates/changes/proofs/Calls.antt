@@ -1,5 +1,5 @@
 -- Demand 3 of what the calls `run`, `fold` and `fold_two` answer and write, with outputs of mostBytes bytes: the answer is the definition's, 11 never
--- occurs, and so the demand of the definitions (change_lists/proofs/Demand.antt) is one of the calls.
+-- occurs, and so the demand of the definitions (change_folds/proofs/Demand.antt) is one of the calls.
 -- Assumes nothing.
 use mathlib.Core.Path.{_≡_, refl, sym, ap, _∙_}
 use mathlib.Core.Logic.{_↔_}
@@ -18,11 +18,11 @@ use Rattle.laws.proofs.Tests.{pick-all}
 use Rattle.tlv.specs.Entries.{Content}
 use Rattle.tlv.specs.Limits.{framed}
 use Rattle.tlv_writing.specs.Encode.{encodeAll, sized}
-use Rattle.change_lists.specs.Operations.{Op, operations}
-use Rattle.change_lists.specs.Run.{ran}
-use Rattle.change_lists.specs.Fold.{encodeOps, sizedOps, folded, foldedTwo}
-use Rattle.change_lists.specs.Demand.{Changes, Dataset, Roomy, running, folding, foldingTwo, wrote, Same}
-use Rattle.change_lists.proofs.Demand.{same-fold-same-effect, folded-apart, either-grouping, always-folds, empty-fits}
+use Rattle.change_lists.specs.Operations.{Op, encodeOps, operations}
+use Rattle.change_folds.specs.Run.{ran}
+use Rattle.change_folds.specs.Fold.{sizedOps, folded, foldedTwo}
+use Rattle.change_folds.specs.Demand.{Changes, Dataset, Roomy, running, folding, foldingTwo, wrote, Same}
+use Rattle.change_folds.proofs.Demand.{same-fold-same-effect, folded-apart, either-grouping, always-folds, empty-fits}
 
 -- ---- what is answered within the limit of bytes
 

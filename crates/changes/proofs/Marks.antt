@@ -13,12 +13,12 @@ use Rattle.refusal.specs.Every.{Bytes}
 use Rattle.laws.proofs.Tests.{by-test}
 use Rattle.tlv.specs.Entries.{Content}
 use Rattle.change_lists.specs.Operations.{Op, set, remove, FirstOp, nothing, bad, operation, firstOp, OpAt, Listed, opStep, opsIn, opsOf, bare}
-use Rattle.change_lists.specs.Fold.{about, touches, lasts, setsOf, removes, removalsBelow, types}
+use Rattle.change_folds.specs.Fold.{about, touches, lasts, setsOf, removes, removalsBelow, types}
 use Rattle.changes.specs.Loops.{shifted, opsAfter, markOf, lastMark, Marked, spared, setBy, chosen, goneBelow}
-use Rattle.change_lists.proofs.Lasts.{without, puts}
-use Rattle.change_lists.proofs.Folds.{Typed, touches-typed}
+use Rattle.change_folds.proofs.Lasts.{without, puts}
+use Rattle.change_folds.proofs.Folds.{Typed, touches-typed}
 use Rattle.change_lists.proofs.Reading.{TakenOp, op-taken, read-good}
-use Rattle.change_lists.proofs.Limits.{typed}
+use Rattle.change_folds.proofs.Limits.{typed}
 
 -- ---- the places of operations ascend, from lo on and up to hi
 

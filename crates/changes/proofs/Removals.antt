@@ -16,8 +16,7 @@ use Rattle.laws.proofs.Tests.{by-test}
 use Rattle.laws.proofs.Puts.{put-then}
 use Rattle.tlv.specs.Entries.{Content}
 use Rattle.tlv_writing.specs.Encode.{encode}
-use Rattle.change_lists.specs.Operations.{Op, set, remove}
-use Rattle.change_lists.specs.Fold.{encodeOp, encodeOps}
+use Rattle.change_lists.specs.Operations.{Op, set, remove, encodeOp, encodeOps}
 use Rattle.changes.specs.Loops.{goneBelow, encodeSet, encodeSets}
 
 -- ---- operations as they are written

@@ -20,14 +20,14 @@ use Rattle.tlv_writing.specs.Encode.{encodeAll, sized}
 use Rattle.tlv.proofs.Walks.{from-start}
 use Rattle.tlv.proofs.Tally as tally
 use Rattle.tlv_writing.proofs.Several.{encode-append}
-use Rattle.change_lists.specs.Operations.{Op, set, OpAt, opsIn, opsOf, bare, limitedOps, operations}
-use Rattle.change_lists.specs.Run.{runAll, ran}
-use Rattle.change_lists.specs.Fold.{lasts, setsOf, foldAll, encodeOps, sizedOps, folded, foldedTwo}
+use Rattle.change_lists.specs.Operations.{Op, set, OpAt, opsIn, opsOf, bare, encodeOps, limitedOps, operations}
+use Rattle.change_folds.specs.Run.{runAll, ran}
+use Rattle.change_folds.specs.Fold.{lasts, setsOf, foldAll, sizedOps, folded, foldedTwo}
 use Rattle.changes.specs.Loops.{opsAfter, Marked, spared, chosen, goneBelow, encodeSets, extentOf, foldedSets, foldedExtent}
 use Rattle.changes.specs.declared.Extent.{Extent}
-use Rattle.change_lists.proofs.Lasts.{puts, run-is}
-use Rattle.change_lists.proofs.Folds.{Typed}
-use Rattle.change_lists.proofs.Effects.{sets-puts}
+use Rattle.change_folds.proofs.Lasts.{puts, run-is}
+use Rattle.change_folds.proofs.Folds.{Typed}
+use Rattle.change_folds.proofs.Effects.{sets-puts}
 use Rattle.change_lists.proofs.Counts.{counted-given, counted-refused}
 use Rattle.changes.proofs.Marks.{marks-one, marks-two, bare-append, bare-after, between-after, both-between, typed-after, chosen-append, chosen-is, spared-is, gone-is}
 use Rattle.changes.proofs.Writes as w

@@ -13,7 +13,7 @@ use Rattle.laws.proofs.Tests.{by-test}
 use Rattle.tlv.specs.Entries.{Content, content}
 use Rattle.change_lists.specs.Operations as op
 use Rattle.change_lists.specs.Operations.{Op, OpAt, opAt, Listed}
-use Rattle.change_lists.specs.Fold.{about}
+use Rattle.change_folds.specs.Fold.{about}
 use Rattle.changes.specs.Loops.{shifted, opsAfter, markOf, lastMark, Marked, setBy, chosen}
 use Rattle.change_lists.proofs.Reading.{opsFrom, ops-start}
 

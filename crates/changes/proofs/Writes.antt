@@ -11,7 +11,7 @@ use Rattle.tlv.specs.Entries.{entry, Content, content, contents, Framing, frami
 use Rattle.tlv_writing.specs.Encode.{encode, sizeOf, encodeAll}
 use Rattle.tlv.proofs.Walks.{from, from-start}
 use Rattle.tlv_writing.proofs.Several.{encode-more, size-part}
-use Rattle.change_lists.specs.Fold.{encodeOp}
+use Rattle.change_lists.specs.Operations.{encodeOp}
 use Rattle.changes.specs.Loops.{spared, encodeSet, encodeSets, extentOf}
 
 -- ---- entries one after the other

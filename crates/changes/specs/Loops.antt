@@ -9,8 +9,8 @@ use lib.Dec.{eqb}
 use Rattle.refusal.specs.Answer.{pick}
 use Rattle.tlv.specs.Entries.{Content}
 use Rattle.tlv_writing.specs.Encode.{encode, encodeAll}
-use Rattle.change_lists.specs.Operations.{Op, set, remove, OpAt, opAt, opsOf}
-use Rattle.change_lists.specs.Fold.{about, encodeOp, encodeOps}
+use Rattle.change_lists.specs.Operations.{Op, set, remove, OpAt, opAt, opsOf, encodeOp, encodeOps}
+use Rattle.change_folds.specs.Fold.{about}
 use Rattle.changes.specs.declared.Extent.{Extent}
 
 -- ---- a table with a mark for each type

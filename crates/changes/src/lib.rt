@@ -12,8 +12,9 @@ ghost use Rattle.refusal.specs.Sizes.{mostBytes, mostValue};
 ghost use Rattle.refusal.specs.Output.{output, emit, writtenAnswer, put};
 ghost use Rattle.tlv.specs.Entries.{content, contents, framing};
 ghost use Rattle.tlv_writing.specs.Encode.{encodeAll};
-ghost use Rattle.change_lists.specs.Run.{ran};
-ghost use Rattle.change_lists.specs.Fold.{encodeOps, folded, foldedTwo};
+ghost use Rattle.change_lists.specs.Operations.{encodeOps};
+ghost use Rattle.change_folds.specs.Run.{ran};
+ghost use Rattle.change_folds.specs.Fold.{folded, foldedTwo};
 ghost use Rattle.changes.specs.Loops.{opsAfter, Marked, spared, chosen, goneBelow, encodeSet, encodeSets, extentOf, foldedExtent};
 
 // The bytes that some entries take as they are written, and their number.

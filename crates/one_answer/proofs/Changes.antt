@@ -3,8 +3,8 @@
 use mathlib.Core.List.{List}
 use mathlib.Core.Path.{_≡_}
 use Prim.Native.Nat.{ℕ}
-use Rattle.change_lists.specs.Fold.{folded, foldedTwo}
-use Rattle.change_lists.specs.Run.{ran}
+use Rattle.change_folds.specs.Fold.{folded, foldedTwo}
+use Rattle.change_folds.specs.Run.{ran}
 use Rattle.refusal.proofs.Papers.{written-tells}
 use Rattle.refusal.specs.Output.{emit, output, writtenAnswer}
 use Rattle.refusal.specs.declared.Written.{Written}

@@ -8,9 +8,9 @@ use Rattle.tlv.specs.Limits.{limited, framed}
 use Rattle.tlv_writing.specs.Encode.{header, encode, encodeAll, sized}
 use Rattle.tlv_rewriting.specs.Rewrite.{keepsOf, kept, rewritten, setLast}
 use Rattle.policy_flags.specs.Threshold.{threshold, withThreshold}
-use Rattle.change_lists.specs.Operations.{setOf, removalOf, firstOp, opStep, opsIn, opsOf, bare, limitedOps, operations}
-use Rattle.change_lists.specs.Fold.{about, touches, lasts, setsOf, removes, removalsBelow, types, foldAll, encodeOp, encodeOps, sizedOps, folded}
-use Rattle.change_lists.specs.Run.{perform, runAll, ran}
+use Rattle.change_lists.specs.Operations.{setOf, removalOf, firstOp, opStep, opsIn, opsOf, bare, encodeOp, encodeOps, limitedOps, operations}
+use Rattle.change_folds.specs.Fold.{about, touches, lasts, setsOf, removes, removalsBelow, types, foldAll, sizedOps, folded}
+use Rattle.change_folds.specs.Run.{perform, runAll, ran}
 use Rattle.network_framing.specs.Frame as frame
 use Rattle.network_framing.specs.Walk as walk
 use Rattle.network_data.specs.Rules as rules

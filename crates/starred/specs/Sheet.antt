@@ -11,8 +11,8 @@ use Rattle.tlv_rewriting.specs.declared.Choice.the-variants.{All}
 use Rattle.timestamps.specs.Timestamps.{built, timestampBytes}
 use Rattle.policy_flags.specs.Threshold.{threshold, withThreshold}
 use Rattle.policy_flags.specs.declared.ThreadProtocolVersion.the-variants.{V1Or2, V5}
-use Rattle.change_lists.specs.Fold.{folded}
-use Rattle.change_lists.specs.Run.{ran}
+use Rattle.change_folds.specs.Fold.{folded}
+use Rattle.change_folds.specs.Run.{ran}
 use Rattle.network_data.specs.Decode.{decodeNetworkData}
 use Rattle.diag_rules.specs.Rule.{valueOf}
 use Rattle.starred.specs.Shown.{versionNumber, entriesShown, routesShown, childrenShown, prefixesShown}

@@ -10,8 +10,8 @@ use borrow.Author.Needs.{needs}
 use Rattle.refusal.specs.Sizes.{mostBytes}
 use Rattle.refusal.specs.Answer.{given, onGiven}
 use Rattle.laws.proofs.Emits.{emit-refused, emit-no-room, emit-done}
-use Rattle.change_lists.specs.Operations.{Op, operations}
-use Rattle.change_lists.specs.Fold.{encodeOps, sizedOps, foldedTwo}
+use Rattle.change_lists.specs.Operations.{Op, encodeOps, operations}
+use Rattle.change_folds.specs.Fold.{sizedOps, foldedTwo}
 use Rattle.changes.specs.Loops.{opsAfter, chosen, goneBelow, encodeSets}
 use Rattle.change_lists.specs.Answers.{countedOpsAnswer}
 use Rattle.change_lists.proofs.Counts.{counted-short}

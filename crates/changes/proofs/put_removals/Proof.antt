@@ -7,7 +7,7 @@ use lib.ListN.{length, length-set}
 use borrow.Author.Needs.{needs}
 use Rattle.refusal.specs.Output.{put}
 use Rattle.laws.proofs.Puts.{put-none}
-use Rattle.change_lists.specs.Fold.{encodeOps}
+use Rattle.change_lists.specs.Operations.{encodeOps}
 use Rattle.changes.specs.Loops.{goneBelow}
 use Rattle.changes.proofs.Removals.{gone-start, gone-count, gone-skip, gone-bytes, gone-stored, gone-grows}
 use Rattle.changes.proofs.put_removals.Statement.{statement}

@@ -17,7 +17,7 @@ use Rattle.tlv.specs.Answers.{countedAnswer}
 use Rattle.tlv.proofs.Tally as tally
 use Rattle.tlv_writing.proofs.Several.{sized-bytes, sized-count, sized-is}
 use Rattle.change_lists.specs.Operations.{operations}
-use Rattle.change_lists.specs.Run.{ran}
+use Rattle.change_folds.specs.Run.{ran}
 use Rattle.changes.specs.Loops.{opsAfter, spared, chosen, encodeSets}
 use Rattle.change_lists.specs.Answers.{countedOpsAnswer}
 use Rattle.change_lists.proofs.Counts.{counted-short}

@@ -12,11 +12,11 @@ use Rattle.refusal.specs.Answer.{pick}
 use Rattle.laws.proofs.Tests.{by-test, pick-all}
 use Rattle.refusal.specs.Every.{Every}
 use Rattle.tlv.specs.Entries.{Content}
 use Rattle.change_lists.specs.Operations.{Op, set, remove}
-use Rattle.change_lists.specs.Run.{runAll}
-use Rattle.change_lists.specs.Fold.{about, touches, lasts, setsOf, removes, removalsBelow, types, foldAll}
+use Rattle.change_folds.specs.Run.{runAll}
+use Rattle.change_folds.specs.Fold.{about, touches, lasts, setsOf, removes, removalsBelow, types, foldAll}
 use Rattle.laws.proofs.Parts.{every-append}
-use Rattle.change_lists.proofs.Lasts.{others, touches-append, sets-append, last-set-or-removed, not-set, removed-is, run-is}
+use Rattle.change_folds.proofs.Lasts.{others, touches-append, sets-append, last-set-or-removed, not-set, removed-is, run-is}
 
 -- ---- removals, types ascending
 

@@ -10,9 +10,9 @@ use Rattle.refusal.specs.Every.{Bytes}
 use Rattle.refusal.specs.Output.{Output, emit}
 use Rattle.tlv.specs.Entries.{Entry}
 use Rattle.tlv.specs.Limits.{framed}
 use Rattle.change_lists.specs.Operations.{OpAt, operations}
-use Rattle.change_lists.specs.Run.{ran}
-use Rattle.change_lists.specs.Fold.{folded, foldedTwo}
+use Rattle.change_folds.specs.Run.{ran}
+use Rattle.change_folds.specs.Fold.{folded, foldedTwo}
 
 -- bytes that are a change list within the limits: its operations are given
 pub record Changes (l : List ℕ) : Type 0 where

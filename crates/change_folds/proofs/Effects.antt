@@ -11,14 +11,14 @@ use Rattle.laws.proofs.Tests.{by-test}
 use Rattle.tlv.specs.Entries.{Content, content}
 use Rattle.tlv_writing.specs.Encode.{encodeAll, sized}
 use Rattle.tlv_writing.proofs.Several.{sized-is}
 use Rattle.change_lists.specs.Operations.{Op, set, remove}
-use Rattle.change_lists.specs.Run.{runAll}
-use Rattle.change_lists.specs.Fold.{touches, lasts, setsOf, types, foldAll}
-use Rattle.change_lists.proofs.Lasts.{without, puts, run-is}
-use Rattle.change_lists.proofs.Folds.{fold-same}
-use Rattle.change_lists.proofs.Weights.{sets-bytes, sets-count}
-use Rattle.change_lists.proofs.Backs.{entries-alike}
-use Rattle.change_lists.proofs.Limits.{Within, tested}
+use Rattle.change_folds.specs.Run.{runAll}
+use Rattle.change_folds.specs.Fold.{touches, lasts, setsOf, types, foldAll}
+use Rattle.change_folds.proofs.Lasts.{without, puts, run-is}
+use Rattle.change_folds.proofs.Folds.{fold-same}
+use Rattle.change_folds.proofs.Weights.{sets-bytes, sets-count}
+use Rattle.change_folds.proofs.Backs.{entries-alike}
+use Rattle.change_folds.proofs.Limits.{Within, tested}
 
 -- an entry with nothing in it
 abbrev pub blank : ℕ → Content

@@ -1,4 +1,4 @@
--- Change lists within the limits: when their operations are given, that these can be written, and what 10 tests.
+-- Change lists within the limits: that their operations can be written, and what 10 tests.
 -- Assumes nothing.
 use mathlib.Core.Path.{_≡_, refl, sym, ap, _∙_, subst}
 use mathlib.Core.List.{List, [], _∷_}
@@ -8,53 +8,20 @@ use lib.Dec.{ltb, leb}
 use lib.ListN.{length, length-append}
 use borrow.Author.Tests.{le-ltb, ltb-false, leb-true, leb-false}
 use Rattle.refusal.specs.Sizes.{mostBytes, mostEntries, mostShort}
-use Rattle.refusal.specs.Answer.{pick, Answer, given, absent, refused}
-use Rattle.laws.proofs.Tests.{by-test, pick-all}
-use Rattle.tlv.specs.Entries.{Stop, clean, cutAt}
+use Rattle.refusal.specs.Answer.{pick, given, refused}
+use Rattle.laws.proofs.Tests.{by-test}
 use Rattle.tlv_writing.specs.Encode.{header, encode}
 use Rattle.tlv_writing.proofs.Encodes.{header-short, header-long}
 use Rattle.refusal.specs.Every.{Bytes}
-use Rattle.change_lists.specs.Operations.{Op, set, remove, OpAt, opsOf, bare, limitedOps, operations}
-use Rattle.change_lists.specs.Fold.{about, types, foldAll, encodeOp, encodeOps, sizedOps}
-use Rattle.change_lists.specs.Demand.{Changes}
+use Rattle.change_lists.specs.Operations.{Op, set, remove, OpAt, opsOf, bare, encodeOp, encodeOps}
+use Rattle.change_folds.specs.Fold.{about, types, foldAll, sizedOps}
+use Rattle.change_folds.specs.Demand.{Changes}
 use Rattle.laws.proofs.Parts.{every-append, every-parts}
-use Rattle.change_lists.proofs.Folds.{Typed, every-fold}
-use Rattle.change_lists.proofs.Weights.{fold-bytes, fold-count}
-use Rattle.change_lists.proofs.Backs.{ops-back}
+use Rattle.change_folds.proofs.Folds.{Typed, every-fold}
+use Rattle.change_folds.proofs.Weights.{fold-bytes, fold-count}
+use Rattle.change_folds.proofs.Backs.{ops-back}
+use Rattle.change_lists.proofs.Given.{Read, was-given, are-given}
 use Rattle.change_lists.proofs.Reading.{Writable, read-good}
-
--- ---- when the operations of a list are given
-pub record Read (s : List ℕ) (os : List OpAt) : Type 0 where
-  pub short : length s ≤ mostBytes
-  pub few : length os ≤ mostEntries
-  pub whole : opsOf s .stop ≡ clean
-  pub are : opsOf s .ops ≡ os
-
-abbrev IfGiven : List ℕ → Answer (List OpAt) → Type 0
-IfGiven s (given os) = Read s os
-IfGiven s absent = Unit {0}
-IfGiven s (refused n p i) = Unit {0}
-
-limited-read : (i : ℕ) (s : List ℕ) (st : Stop) → opsOf s .stop ≡ st → length s ≤ mostBytes → IfGiven s (limitedOps i st (opsOf s .ops))
-unfolding limitedOps
-limited-read i s (cutAt p) e h = tt
-limited-read i s clean e h =
-    pick-all (IfGiven s) (ltb mostEntries (length (opsOf s .ops))) _ (given (opsOf s .ops)) (λ f. tt)
-    (λ f. record { short = h; few = ltb-false _ _ f; whole = e; are = refl })
-
-pub was-given : (i : ℕ) (s : List ℕ) (os : List OpAt) → operations i s ≡ given os → Read s os
-unfolding operations
-was-given i s os e =
-    subst (IfGiven s) e
-    (pick-all (IfGiven s) (ltb mostBytes (length s)) (refused 1 0 i) _ (λ f. tt) (λ f. limited-read i s (opsOf s .stop) refl (ltb-false _ _ f)))
-
-pub are-given : (i : ℕ) (s : List ℕ) (os : List OpAt) → Read s os → operations i s ≡ given os
-unfolding operations limitedOps
-are-given i s os r =
-    rw (le-ltb mostBytes (length s) (r .short), r .whole, r .are, le-ltb mostEntries (length os) (r .few))
-
-pub input-alike : (i j : ℕ) (s : List ℕ) (os : List OpAt) → operations i s ≡ given os → operations j s ≡ given os
-input-alike i j s os e = are-given j s os (was-given i s os e)
 
 length-bare : (os : List OpAt) → length (bare os) ≡ length os
 unfolding bare

@@ -9,16 +9,17 @@ use Rattle.refusal.specs.Answer.{given}
 use Rattle.tlv.specs.Entries.{entry, contents, valued, first, step, frames, framing}
 use Rattle.tlv.specs.Limits.{limited, framed}
 use Rattle.tlv_writing.specs.Encode.{sized}
-use Rattle.change_lists.specs.Operations.{Op, bare}
-use Rattle.change_lists.specs.Run.{runAll, ran}
-use Rattle.change_lists.specs.Fold.{types, foldAll, encodeOps, sizedOps, folded, foldedTwo}
-use Rattle.change_lists.specs.Demand.{Changes, Dataset}
+use Rattle.change_lists.specs.Operations.{Op, bare, encodeOps}
+use Rattle.change_folds.specs.Run.{runAll, ran}
+use Rattle.change_folds.specs.Fold.{types, foldAll, sizedOps, folded, foldedTwo}
+use Rattle.change_folds.specs.Demand.{Changes, Dataset}
 use Rattle.laws.proofs.Parts.{every-append}
-use Rattle.change_lists.proofs.Folds.{Typed, run-fold, fold-fold, fold-two, fold-three}
-use Rattle.change_lists.proofs.Backs.{ops-alike}
+use Rattle.change_folds.proofs.Folds.{Typed, run-fold, fold-fold, fold-two, fold-three}
+use Rattle.change_folds.proofs.Backs.{ops-alike}
+use Rattle.change_lists.proofs.Given.{input-alike}
 use Rattle.change_lists.proofs.Reading.{Writable}
-use Rattle.change_lists.proofs.Limits.{ops-within, typed, input-alike, fold-given, made}
-use Rattle.change_lists.proofs.Effects.{run-empty, same-effects}
+use Rattle.change_folds.proofs.Limits.{ops-within, typed, fold-given, made}
+use Rattle.change_folds.proofs.Effects.{run-empty, same-effects}
 
 -- ---- what the calls answer, by the list's operations
 

@@ -11,9 +11,9 @@ use Rattle.laws.proofs.Tests.{by-test}
 use Rattle.tlv.specs.Entries.{Content}
 use Rattle.tlv_rewriting.specs.Rewrite.{keepsOf, kept, setLast}
 use Rattle.tlv_rewriting.specs.declared.Choice.the-variants.{Without}
 use Rattle.change_lists.specs.Operations.{Op, set, remove}
-use Rattle.change_lists.specs.Run.{perform, runAll}
-use Rattle.change_lists.specs.Fold.{about, touches, lasts, setsOf, removes}
+use Rattle.change_folds.specs.Run.{perform, runAll}
+use Rattle.change_folds.specs.Fold.{about, touches, lasts, setsOf, removes}
 
 -- the entries, and the operations, whose type does not pass the test
 unfoldable pub without : (ℕ → Bool) → List Content → List Content

@@ -8,8 +8,7 @@ use lib.ListN.{length}
 use Rattle.tlv.specs.Entries.{first, Content, content, clean}
 use Rattle.tlv_writing.specs.Encode.{encodeAll}
 use Rattle.tlv_writing.proofs.Round.{first-back}
-use Rattle.change_lists.specs.Operations.{Op, set, remove, operation, setOf, removalOf, firstOp, opStep, opsIn, bare}
-use Rattle.change_lists.specs.Fold.{encodeOp, encodeOps}
+use Rattle.change_lists.specs.Operations.{Op, set, remove, operation, setOf, removalOf, firstOp, opStep, opsIn, bare, encodeOp, encodeOps}
 
 op-back : (o : Op) (rest : List ℕ) → firstOp (encodeOp o ++ rest) ≡ operation o rest
 unfolding firstOp encodeOp setOf removalOf

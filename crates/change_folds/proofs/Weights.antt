@@ -9,10 +9,10 @@ use lib.ListN.{length, length-append}
 use borrow.Author.Tests.{eqb-true, ne-eqb}
 use Rattle.laws.proofs.Tests.{by-test}
 use Rattle.tlv_writing.specs.Encode.{encodeAll}
-use Rattle.change_lists.specs.Operations.{Op, set, remove}
-use Rattle.change_lists.specs.Fold.{about, touches, lasts, setsOf, removes, removalsBelow, types, foldAll, encodeOp, encodeOps}
-use Rattle.change_lists.proofs.Lasts.{puts}
-use Rattle.change_lists.proofs.Folds.{removals-same}
+use Rattle.change_lists.specs.Operations.{Op, set, remove, encodeOp, encodeOps}
+use Rattle.change_folds.specs.Fold.{about, touches, lasts, setsOf, removes, removalsBelow, types, foldAll}
+use Rattle.change_folds.proofs.Lasts.{puts}
+use Rattle.change_folds.proofs.Folds.{removals-same}
 
 -- what operations weigh in all, where w says what each weighs
 unfoldable weight : (Op → ℕ) → List Op → ℕ

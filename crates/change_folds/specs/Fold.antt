@@ -8,8 +8,7 @@ use lib.ListN.{length}
 use lib.Dec.{ltb, eqb}
 use Rattle.refusal.specs.Sizes.{mostBytes, mostEntries}
 use Rattle.refusal.specs.Answer.{pick, Answer, given, refused, thenDo}
-use Rattle.tlv_writing.specs.Encode.{encode}
-use Rattle.change_lists.specs.Operations.{Op, set, remove, OpAt, bare, operations}
+use Rattle.change_lists.specs.Operations.{Op, set, remove, OpAt, bare, encodeOps, operations}
 
 -- the type that an operation is about
 unfoldable pub about : Op → ℕ
@@ -47,15 +46,6 @@ types = 256
 
 unfoldable pub foldAll : List Op → List Op
 foldAll os = removalsBelow types (lasts os) ++ setsOf (lasts os)
-
--- operations as they are written
-unfoldable pub encodeOp : Op → List ℕ
-encodeOp (set c) = 83 ∷ 69 ∷ encode (c .ty) (c .value)
-encodeOp (remove t) = 82 ∷ 77 ∷ t ∷ []
-
-unfoldable pub encodeOps : List Op → List ℕ
-encodeOps [] = []
-encodeOps (o ∷ os) = encodeOp o ++ encodeOps os
 
 -- 10, "result over the sizes above"
 unfoldable pub sizedOps : List Op → Answer (List ℕ)
