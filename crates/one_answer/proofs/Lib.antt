@@ -22,6 +22,7 @@ pub mod NetworkTables
 pub mod NetworkBridge
 pub mod DiagRules
 pub mod DiagValues
+pub mod Connectivity
 pub mod Route64
 pub mod DiagRows
 pub mod DiagEntries
