@@ -4,6 +4,7 @@ pub mod Wire
 pub mod Tlv
 pub mod TlvWriting
 pub mod TlvRewriting
+pub mod HexText
 pub mod Base16
 pub mod Utf8
 pub mod Values
