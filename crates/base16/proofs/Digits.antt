@@ -8,7 +8,8 @@ use lib.Dec.{ltb, leb}
 use borrow.Author.Tests.{leb-true, le-leb, lt-leb, ltb-true, ltb-false, lt-ltb, le-ltb}
 use Rattle.refusal.specs.Answer.{pick, given, refused}
 use Rattle.laws.proofs.Tests.{by-test}
-use Rattle.base16.specs.Base16.{between, digitValue, digit}
+use Rattle.hex_text.specs.HexText.{digit}
+use Rattle.base16.specs.Base16.{between, digitValue}
 use Rattle.base16.specs.Loops.{orZero, isGiven, isDigit, valueOf}
 
 module _ (low high c : ℕ) where

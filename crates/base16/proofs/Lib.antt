@@ -1,6 +1,5 @@
 pub mod Digits
 pub mod Scans
-pub mod Texts
 pub mod Pairs
 pub mod Decodes
 pub mod RoundTrips

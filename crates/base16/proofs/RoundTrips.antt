@@ -13,11 +13,12 @@ use Rattle.refusal.specs.Answer.{Answer, given, refused}
 use Rattle.refusal.specs.Sizes.{mostBytes, mostDigits}
 use Rattle.laws.proofs.Tests.{by-test}
 use Rattle.refusal.specs.Every.{Bytes}
-use Rattle.base16.specs.Base16.{hexText, digits, decoded, lowered}
+use Rattle.hex_text.specs.HexText.{hexText}
+use Rattle.hex_text.proofs.Texts.{length-text}
+use Rattle.base16.specs.Base16.{digits, decoded, lowered}
 use Rattle.base16.specs.Loops.{valueOf, allDigits, paired}
 use Rattle.base16.proofs.Digits.{value-small, value-lower, digit-value}
 use Rattle.base16.proofs.Scans.{all-parts}
-use Rattle.base16.proofs.Texts.{length-text}
 use Rattle.base16.proofs.Pairs.{length-paired}
 use Rattle.base16.proofs.Decodes.{decoded-large, decoded-odd, decoded-even, decoded-bad, decoded-good}
 

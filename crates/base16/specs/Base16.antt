@@ -1,22 +1,13 @@
--- Base 16 of RFC 4648, section 8: two digits for each byte, the upper four bits first. Document 01: "Hex is read in both cases and written
--- in lower case".
+-- Base 16 of RFC 4648, section 8, as it is read: two digits for each byte, the upper four bits first. Document 01: "Hex is read in both cases and
+-- written in lower case".
 -- Assumes nothing.
-use Prim.Native.Nat.{ℕ, _+_, _-_, _*_, _/_, _%_}
+use Prim.Native.Nat.{ℕ, _+_, _-_, _*_, _%_}
 use mathlib.Core.Bool.{Bool, _&&_}
 use mathlib.Core.List.{List, [], _∷_}
 use lib.ListN.{length}
 use lib.Dec.{ltb, leb, eqb}
 use Rattle.refusal.specs.Sizes.{mostDigits}
 use Rattle.refusal.specs.Answer.{pick, Answer, given, refused, thenDo, onGiven}
-
--- the character of a value below 16: '0' to '9', then 'a' to 'f'
-unfoldable pub digit : ℕ → ℕ
-digit v = pick (ltb v 10) (48 + v) (87 + v)
-
--- the text of bytes
-unfoldable pub hexText : List ℕ → List ℕ
-hexText [] = []
-hexText (b ∷ bs) = digit (b / 16) ∷ digit (b % 16) ∷ hexText bs
 
 abbrev pub between : ℕ → ℕ → ℕ → Bool
 between low high c = leb low c && leb c high

@@ -20,7 +20,7 @@ use Rattle.tlv_rewriting.specs.Rewrite.{keepsOf, kept, rewritten}
 use Rattle.tlv_rewriting.specs.declared.Choice.{Choice}
 use Rattle.tlv_rewriting.specs.declared.Choice.the-variants.{All}
 use Rattle.tlv.proofs.Tally.{framed-holds}
-use Rattle.base16.specs.Base16.{hexText}
+use Rattle.hex_text.specs.HexText.{hexText}
 use Rattle.base16.proofs.RoundTrips.{decoded-text}
 use Rattle.dataset_hex.specs.Hex.{hexOf, wellFramed, fromHex}
 use Rattle.laws.proofs.Answers.{gives}

@@ -16,7 +16,8 @@ use Rattle.laws.proofs.Callers.{Refuses, itself, no-room, gave, refuses}
 use Rattle.tlv_rewriting.specs.Rewrite.{rewritten}
 use Rattle.tlv_rewriting.specs.declared.Choice.the-variants.{All}
 use Rattle.dataset_edits.proofs.ReadBack.{rewritten-fits}
-use Rattle.base16.specs.Base16.{decoded, hexText}
+use Rattle.hex_text.specs.HexText.{hexText}
+use Rattle.base16.specs.Base16.{decoded}
 use Rattle.base16.proofs.RoundTrips.{decoded-fits}
 use Rattle.dataset_hex.specs.Hex.{hexOf, wellFramed, fromHex}
 

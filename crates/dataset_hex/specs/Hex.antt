@@ -7,7 +7,8 @@ use Rattle.tlv.specs.Entries.{Entry}
 use Rattle.tlv.specs.Limits.{framed}
 use Rattle.tlv_rewriting.specs.Rewrite.{rewritten}
 use Rattle.tlv_rewriting.specs.declared.Choice.the-variants.{All}
-use Rattle.base16.specs.Base16.{decoded, hexText}
+use Rattle.hex_text.specs.HexText.{hexText}
+use Rattle.base16.specs.Base16.{decoded}
 
 -- the text of a dataset, written afresh: 1, 2, 3
 unfoldable pub hexOf : List ℕ → Answer (List ℕ)

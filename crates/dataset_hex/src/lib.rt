@@ -13,7 +13,7 @@ pub fn to_hex(s: &[u8], out: &mut [u8]) -> Written
     let mut bytes = [0u8; refusal::MAX_BYTES];
     match tlv_rewriting::rewrite(s, &mut bytes) {
         Written::Refused(r) => Written::Refused(r),
-        Written::Bytes(n) => base16::encode(&bytes[0..n], out),
+        Written::Bytes(n) => hex_text::encode(&bytes[0..n], out),
     }
 }
 

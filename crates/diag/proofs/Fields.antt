@@ -24,16 +24,17 @@ use Rattle.tlv_last.specs.declared.Found.the-variants as f
 use Rattle.network_data.specs.Decode.{Prefix, contents, countsOf, decodeNetworkData}
 use Rattle.network_data.specs.declared.Counts.{Counts}
 use Rattle.diag_rules.specs.Rule.{keepsRule, valueOf}
-use Rattle.diag_values.specs.Answers.{answer8, modeAnswer, connectivityAnswer, leaderAnswer, countersAnswer}
+use Rattle.diag_values.specs.Answers.{answer8, modeAnswer, leaderAnswer, countersAnswer}
+use Rattle.connectivity.specs.Answers.{connectivityAnswer}
 use Rattle.diag_values.proofs.Read8
 use Rattle.diag_values.specs.declared.Read8.{Read8}
 use Rattle.diag_values.specs.declared.Read8.the-variants as v8
 use Rattle.diag_values.proofs.ReadMode
 use Rattle.diag_values.specs.declared.ReadMode.{ReadMode}
 use Rattle.diag_values.specs.declared.ReadMode.the-variants as m
-use Rattle.diag_values.proofs.ReadConnectivity
-use Rattle.diag_values.specs.declared.ReadConnectivity.{ReadConnectivity}
-use Rattle.diag_values.specs.declared.ReadConnectivity.the-variants as y
+use Rattle.connectivity.proofs.ReadConnectivity
+use Rattle.connectivity.specs.declared.ReadConnectivity.{ReadConnectivity}
+use Rattle.connectivity.specs.declared.ReadConnectivity.the-variants as y
 use Rattle.diag_values.proofs.ReadLeaderData
 use Rattle.diag_values.specs.declared.ReadLeaderData.{ReadLeaderData}
 use Rattle.diag_values.specs.declared.ReadLeaderData.the-variants as l

@@ -5,9 +5,9 @@ use mathlib.Core.List.{List}
 use Prim.Native.Nat.{ℕ}
 use Rattle.refusal.specs.Answer.{Answer, given, absent, refused, onGiven}
 use Rattle.refusal.proofs.Papers.{Tells, tells, refusalOf, refusal-back, codeOf}
-use Rattle.diag_values.specs.Values.{ConnectivityValue}
+use Rattle.connectivity.specs.Connectivity.{ConnectivityValue}
 use Rattle.diag_values.specs.Answers.{optAnswer8, optAnswer16}
-use Rattle.diag_values.proofs.Papers.{connectivityFrom, connectivity-back}
+use Rattle.connectivity.proofs.Papers.{connectivityFrom, connectivity-back}
 use Rattle.diag_values.specs.declared.OptU8.{OptU8}
 use Rattle.diag_values.specs.declared.OptU8.the-variants as o8
 use Rattle.diag_values.specs.declared.OptU16.{OptU16}

@@ -16,7 +16,8 @@ use Rattle.tlv_last.specs.Last.{Spot, spot, lastOf}
 use Rattle.tlv.proofs.Walks.{Lies, framing-lies}
 use Rattle.network_data.specs.Decode.{Prefix, contents, decodeNetworkData}
 use Rattle.network_data.proofs.Counted.{is-contents}
-use Rattle.diag_values.specs.Values.{modeValue, connectivityOf, leaderOf, countersOf}
+use Rattle.diag_values.specs.Values.{modeValue, leaderOf, countersOf}
+use Rattle.connectivity.specs.Connectivity.{connectivityOf}
 use Rattle.route64.specs.Routes.{routeOf}
 use Rattle.diag_rows.specs.Rows.{childRows, addresses}
 use Rattle.diag_values.specs.Answers.{optAnswer8, optAnswer16}

@@ -5,10 +5,11 @@ use mathlib.Core.List.{List}
 use Rattle.refusal.specs.Answer.{Answer, given, absent, onGiven}
 use Rattle.refusal.specs.Number.{refusalAnswer}
 use Rattle.network_data.specs.Decode.{contents}
-use Rattle.diag_values.specs.Values.{ConnectivityValue}
+use Rattle.connectivity.specs.Connectivity.{ConnectivityValue}
 use Rattle.route64.specs.Routes.{routeOf}
 use Rattle.diag_rows.specs.Rows.{Part, part, childRows, addresses}
-use Rattle.diag_values.specs.Answers.{optAnswer8, optAnswer16, connectivityPaper}
+use Rattle.diag_values.specs.Answers.{optAnswer8, optAnswer16}
+use Rattle.connectivity.specs.Answers.{connectivityPaper}
 use Rattle.diag_values.specs.declared.ModeData.{ModeData}
 use Rattle.diag_values.specs.declared.LeaderData.{LeaderData}
 use Rattle.diag_values.specs.declared.MacCounters.{MacCounters}

@@ -9,7 +9,8 @@ use Rattle.tlv.specs.Entries.{Entry}
 use Rattle.network_data.specs.Decode.{Prefix, contents, countsOf}
 use Rattle.network_data.specs.declared.Counts.{Counts}
 use Rattle.diag_rules.specs.Mask.{byteAt}
-use Rattle.diag_values.specs.Values.{modeValue, ConnectivityValue, connectivityOf, leaderOf, countersOf}
+use Rattle.diag_values.specs.Values.{modeValue, leaderOf, countersOf}
+use Rattle.connectivity.specs.Connectivity.{ConnectivityValue, connectivityOf}
 use Rattle.route64.specs.Routes.{Route, routeOf}
 use Rattle.diag_rows.specs.Rows.{childRows, addresses}
 use Rattle.diag_values.specs.declared.ModeData.{ModeData}

@@ -10,7 +10,8 @@ use Rattle.wire.specs.Be.{be}
 use Rattle.tlv.specs.Entries.{framing}
 use Rattle.tlv_last.specs.Last.{Spot, spotAt, spot}
 use Rattle.network_data.specs.Decode.{Prefix, contents, countsOf, decodeNetworkData}
-use Rattle.diag_values.specs.Values.{modeValue, connectivityOf, leaderOf, countersOf}
+use Rattle.diag_values.specs.Values.{modeValue, leaderOf, countersOf}
+use Rattle.connectivity.specs.Connectivity.{connectivityOf}
 use Rattle.route64.specs.Routes.{routeOf}
 use Rattle.diag_rows.specs.Rows.{Part, part, childRows, addresses}
 use Rattle.diag_rules.specs.Rule.{valueOf}

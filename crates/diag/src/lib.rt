@@ -1,12 +1,12 @@
 // What a diagnostic payload says (decode.rs, model.rs): the record of its values, those that stay in the payload as parts of it.
-use diag_values::Connectivity;
+use connectivity::Connectivity;
+use connectivity::ReadConnectivity;
 use diag_values::LeaderData;
 use diag_values::MacCounters;
 use diag_values::ModeData;
 use diag_values::OptU8;
 use diag_values::OptU16;
 use diag_values::Read8;
-use diag_values::ReadConnectivity;
 use diag_values::ReadLeaderData;
 use diag_values::ReadMacCounters;
 use diag_values::ReadMode;
@@ -23,7 +23,8 @@ ghost use Prim.Native.Nat.{_<_};
 ghost use Rattle.refusal.specs.Answer.{onGiven};
 ghost use Rattle.wire.specs.Be.{be};
 ghost use Rattle.tlv_last.specs.Answers.{foundAnswer};
-ghost use Rattle.diag_values.specs.Values.{modeValue, connectivityOf, leaderOf, countersOf};
+ghost use Rattle.diag_values.specs.Values.{modeValue, leaderOf, countersOf};
+ghost use Rattle.connectivity.specs.Connectivity.{connectivityOf};
 ghost use Rattle.diag_values.specs.Answers.{optAnswer8, optAnswer16};
 ghost use Rattle.diag.specs.Diag.{byteOf, decode};
 ghost use Rattle.diag.specs.Answers.{optAnswer32, optMode, optConnectivity, optLeaderData, optMacCounters, optPart, optNetworkData, diagOf, decodedAnswer};
@@ -241,7 +242,7 @@ fn connectivity_in(payload: &[u8], e: Found) -> OptConnectivity
     match e {
         Found::At { place, start, len } => {
             let end = start + len;
-            match diag_values::decode_connectivity(&payload[start..end], place) {
+            match connectivity::decode_connectivity(&payload[start..end], place) {
                 ReadConnectivity::Value(x) => OptConnectivity::Some(x),
                 _ => OptConnectivity::None,
             }

@@ -1,4 +1,3 @@
 pub mod Numbers
 pub mod Agree
-pub mod Late
 pub mod Papers

@@ -4,16 +4,13 @@ use mathlib.Core.Path.{_≡_, refl, ap}
 use Prim.Native.Nat.{ℕ}
 use Rattle.refusal.specs.Answer.{Answer, given, absent, refused}
 use Rattle.refusal.proofs.Papers.{Tells, tells, refusal-back, codeOf}
-use Rattle.diag_values.specs.Values.{ConnectivityValue}
-use Rattle.diag_values.specs.Answers.{optAnswer8, optAnswer16, answer8, modeAnswer, connectivityPaper, connectivityAnswer, leaderAnswer, countersAnswer}
+use Rattle.diag_values.specs.Answers.{optAnswer8, optAnswer16, answer8, modeAnswer, leaderAnswer, countersAnswer}
 use Rattle.diag_values.specs.declared.OptU8.{OptU8}
 use Rattle.diag_values.specs.declared.OptU8.the-variants as o8
 use Rattle.diag_values.specs.declared.OptU16.{OptU16}
 use Rattle.diag_values.specs.declared.OptU16.the-variants as o16
 use Rattle.diag_values.specs.declared.Read8.the-variants as v8
 use Rattle.diag_values.specs.declared.ReadMode.the-variants as m
-use Rattle.diag_values.specs.declared.Connectivity.{Connectivity}
-use Rattle.diag_values.specs.declared.ReadConnectivity.the-variants as y
 use Rattle.diag_values.specs.declared.ReadLeaderData.the-variants as l
 use Rattle.diag_values.specs.declared.ReadMacCounters.the-variants as k
 
@@ -29,49 +26,28 @@ leader-tells = tells leaderAnswer (codeOf l.Value l.Absent l.Refused) (elim [ l.
 pub counters-tells : Tells countersAnswer
 counters-tells = tells countersAnswer (codeOf k.Value k.Absent k.Refused) (elim [ k.Value x ↦ refl | k.Absent ↦ refl | k.Refused x ↦ ap k.Refused (refusal-back x) ])
 
--- ---- Connectivity, whose late fields may be missing
+-- ---- fields that may be missing
 
-abbrev u8Of : Answer ℕ → OptU8
+abbrev pub u8Of : Answer ℕ → OptU8
 u8Of (given x) = o8.Some x
 u8Of absent = o8.None
 u8Of (refused n p i) = o8.None
 
-u8-back : (x : OptU8) → u8Of (optAnswer8 x) ≡ x
+pub u8-back : (x : OptU8) → u8Of (optAnswer8 x) ≡ x
 u8-back (o8.Some x) = refl
 u8-back o8.None = refl
 
 pub opt8-tells : Tells optAnswer8
 opt8-tells = tells optAnswer8 u8Of u8-back
 
-abbrev u16Of : Answer ℕ → OptU16
+abbrev pub u16Of : Answer ℕ → OptU16
 u16Of (given x) = o16.Some x
 u16Of absent = o16.None
 u16Of (refused n p i) = o16.None
 
-u16-back : (x : OptU16) → u16Of (optAnswer16 x) ≡ x
+pub u16-back : (x : OptU16) → u16Of (optAnswer16 x) ≡ x
 u16-back (o16.Some x) = refl
 u16-back o16.None = refl
 
 pub opt16-tells : Tells optAnswer16
 opt16-tells = tells optAnswer16 u16Of u16-back
-
-abbrev pub connectivityFrom : ConnectivityValue → Connectivity
-connectivityFrom x = record {
-  «parent_priority» = x .parentPriority;
-  «link_quality_3» = x .linkQuality3;
-  «link_quality_2» = x .linkQuality2;
-  «link_quality_1» = x .linkQuality1;
-  «leader_cost» = x .leaderCost;
-  «id_sequence» = x .idSequence;
-  «active_routers» = x .activeRouters;
-  «rx_off_child_buffer_size» = u16Of (x .bufferSize);
-  «rx_off_child_datagram_count» = u8Of (x .datagramCount);
-}
-
-pub connectivity-back : (x : Connectivity) → connectivityFrom (connectivityPaper x) ≡ x
-connectivity-back x = simp (u16-back, u8-back)
-
-pub connectivity-tells : Tells connectivityAnswer
-connectivity-tells =
-    tells connectivityAnswer (codeOf (λ (x : ConnectivityValue). y.Value (connectivityFrom x)) y.Absent y.Refused)
-    (elim [ y.Value x ↦ ap y.Value (connectivity-back x) | y.Absent ↦ refl | y.Refused x ↦ ap y.Refused (refusal-back x) ])

@@ -3,7 +3,6 @@
 use Prim.Native.Nat.{ℕ}
 use Rattle.refusal.specs.Answer.{Answer, given, absent}
 use Rattle.refusal.specs.Number.{refusalAnswer}
-use Rattle.diag_values.specs.Values.{ConnectivityValue}
 use Rattle.diag_values.specs.declared.OptU8.{OptU8}
 use Rattle.diag_values.specs.declared.OptU8.the-variants as o8
 use Rattle.diag_values.specs.declared.OptU16.{OptU16}
@@ -13,9 +12,6 @@ use Rattle.diag_values.specs.declared.Read8.the-variants as v8
 use Rattle.diag_values.specs.declared.ModeData.{ModeData}
 use Rattle.diag_values.specs.declared.ReadMode.{ReadMode}
 use Rattle.diag_values.specs.declared.ReadMode.the-variants as m
-use Rattle.diag_values.specs.declared.Connectivity.{Connectivity}
-use Rattle.diag_values.specs.declared.ReadConnectivity.{ReadConnectivity}
-use Rattle.diag_values.specs.declared.ReadConnectivity.the-variants as y
 use Rattle.diag_values.specs.declared.LeaderData.{LeaderData}
 use Rattle.diag_values.specs.declared.ReadLeaderData.{ReadLeaderData}
 use Rattle.diag_values.specs.declared.ReadLeaderData.the-variants as l
@@ -41,24 +37,6 @@ abbrev pub modeAnswer : ReadMode → Answer ModeData
 modeAnswer (m.Value x) = given x
 modeAnswer m.Absent = absent
 modeAnswer (m.Refused x) = refusalAnswer x
-
-abbrev pub connectivityPaper : Connectivity → ConnectivityValue
-connectivityPaper x = record {
-  parentPriority = x .«parent_priority»;
-  linkQuality3 = x .«link_quality_3»;
-  linkQuality2 = x .«link_quality_2»;
-  linkQuality1 = x .«link_quality_1»;
-  leaderCost = x .«leader_cost»;
-  idSequence = x .«id_sequence»;
-  activeRouters = x .«active_routers»;
-  bufferSize = optAnswer16 (x .«rx_off_child_buffer_size»);
-  datagramCount = optAnswer8 (x .«rx_off_child_datagram_count»);
-}
-
-abbrev pub connectivityAnswer : ReadConnectivity → Answer ConnectivityValue
-connectivityAnswer (y.Value x) = given (connectivityPaper x)
-connectivityAnswer y.Absent = absent
-connectivityAnswer (y.Refused x) = refusalAnswer x
 
 abbrev pub leaderAnswer : ReadLeaderData → Answer LeaderData
 leaderAnswer (l.Value x) = given x

@@ -1,5 +1,5 @@
 // The values of a network-diagnostic payload (decode.rs, model.rs) that are one number or one record, each read from its own bytes. Those with rows
-// are in `diag_rows` and `route64`; Network Data, type 7, is in none of them.
+// are in `diag_rows` and `route64`, Connectivity in `connectivity`; Network Data, type 7, is in none of them.
 use diag_rules::Judged;
 use refusal::Refusal;
 ghost use mathlib.Core.Path.{_≡_};
@@ -9,8 +9,8 @@ ghost use lib.ListN.{length};
 ghost use Rattle.refusal.specs.Answer.{onGiven};
 ghost use Rattle.diag_rules.specs.Mask.{byteAt};
 ghost use Rattle.diag_rules.specs.Rule.{valueOf};
-ghost use Rattle.diag_values.specs.Values.{numberAt, modeOf, modeValue, leaderOf, countersOf, priorityOf, bufferOf, datagramsOf, connectivityOf};
-ghost use Rattle.diag_values.specs.Answers.{optAnswer8, optAnswer16, answer8, modeAnswer, connectivityPaper, connectivityAnswer, leaderAnswer, countersAnswer};
+ghost use Rattle.diag_values.specs.Values.{numberAt, modeOf, modeValue, leaderOf, countersOf};
+ghost use Rattle.diag_values.specs.Answers.{answer8, modeAnswer, leaderAnswer, countersAnswer};
 
 // A field that may be missing.
 pub enum OptU8 {
@@ -28,19 +28,6 @@ pub struct ModeData {
     pub rx_on_when_idle: bool,
     pub is_mtd: bool,
     pub requires_full_network_data: bool,
-}
-
-// The priority is 1 high, 0 medium, -1 low, -2 reserved.
-pub struct Connectivity {
-    pub parent_priority: i8,
-    pub link_quality_3: u8,
-    pub link_quality_2: u8,
-    pub link_quality_1: u8,
-    pub leader_cost: u8,
-    pub id_sequence: u8,
-    pub active_routers: u8,
-    pub rx_off_child_buffer_size: OptU16,
-    pub rx_off_child_datagram_count: OptU8,
 }
 
 pub struct LeaderData {
@@ -72,12 +59,6 @@ pub enum Read8 {
 
 pub enum ReadMode {
     Value(ModeData),
-    Absent,
-    Refused(Refusal),
-}
-
-pub enum ReadConnectivity {
-    Value(Connectivity),
     Absent,
     Refused(Refusal),
 }
@@ -190,65 +171,5 @@ pub fn decode_mac_counters(value: &[u8], place: usize) -> ReadMacCounters
     match diag_rules::check_value(diag_rules::MAC_COUNTERS, value, place) {
         Judged::Kept => ReadMacCounters::Value(mac_counters_of(value)),
         Judged::Refused(r) => ReadMacCounters::Refused(r),
-    }
-}
-
-// Type 4: the top two bits of the first byte as a priority.
-fn priority(b: u8) -> i8
-    ensures { λ r. ⌜ r ≡ priorityOf b ⌝ }
-{
-    match b / 64 {
-        1 => 1,
-        0 => 0,
-        3 => -1,
-        _ => -2,
-    }
-}
-
-// The two late fields of a Connectivity.
-fn buffer_size(v: &[u8]) -> OptU16
-    ensures { λ r. ⌜ optAnswer16 r ≡ bufferOf (now (v .entry)) ⌝ }
-{
-    if v.len() < 10 {
-        return OptU16::None;
-    }
-    OptU16::Some(u16_at(v, 7))
-}
-
-fn datagram_count(v: &[u8]) -> OptU8
-    ensures { λ r. ⌜ optAnswer8 r ≡ datagramsOf (now (v .entry)) ⌝ }
-{
-    if v.len() < 10 {
-        return OptU8::None;
-    }
-    OptU8::Some(v[9])
-}
-
-fn connectivity_of(v: &[u8]) -> Connectivity
-    requires { ⌜ 7 ≤ length (now v) ⌝ }
-    ensures { λ r. ⌜ connectivityPaper r ≡ connectivityOf (now (v .entry)) ⌝ }
-{
-    let size = buffer_size(v);
-    let count = datagram_count(v);
-    let first = priority(v[0]);
-    Connectivity {
-        parent_priority: first,
-        link_quality_3: v[1],
-        link_quality_2: v[2],
-        link_quality_1: v[3],
-        leader_cost: v[4],
-        id_sequence: v[5],
-        active_routers: v[6],
-        rx_off_child_buffer_size: size,
-        rx_off_child_datagram_count: count,
-    }
-}
-
-pub fn decode_connectivity(value: &[u8], place: usize) -> ReadConnectivity
-    ensures { λ r. ⌜ connectivityAnswer r ≡ onGiven connectivityOf (valueOf 4 place (now (value .entry))) ⌝ }
-{
-    match diag_rules::check_value(diag_rules::CONNECTIVITY, value, place) {
-        Judged::Kept => ReadConnectivity::Value(connectivity_of(value)),
-        Judged::Refused(r) => ReadConnectivity::Refused(r),
     }
 }

@@ -5,12 +5,11 @@ use mathlib.Core.Path.{_≡_}
 use Prim.Native.Nat.{ℕ}
 use Rattle.diag_rules.specs.Mask.{byteAt}
 use Rattle.diag_rules.specs.Rule.{valueOf}
-use Rattle.diag_values.proofs.Papers.{connectivity-tells, counters-tells, leader-tells, mode-tells, read8-tells}
-use Rattle.diag_values.specs.Answers.{answer8, connectivityAnswer, countersAnswer, leaderAnswer, modeAnswer}
-use Rattle.diag_values.specs.Values.{connectivityOf, countersOf, leaderOf, modeOf, modeValue}
+use Rattle.diag_values.proofs.Papers.{counters-tells, leader-tells, mode-tells, read8-tells}
+use Rattle.diag_values.specs.Answers.{answer8, countersAnswer, leaderAnswer, modeAnswer}
+use Rattle.diag_values.specs.Values.{countersOf, leaderOf, modeOf, modeValue}
 use Rattle.diag_values.specs.declared.ModeData.{ModeData}
 use Rattle.diag_values.specs.declared.Read8.{Read8}
-use Rattle.diag_values.specs.declared.ReadConnectivity.{ReadConnectivity}
 use Rattle.diag_values.specs.declared.ReadLeaderData.{ReadLeaderData}
 use Rattle.diag_values.specs.declared.ReadMacCounters.{ReadMacCounters}
 use Rattle.diag_values.specs.declared.ReadMode.{ReadMode}
@@ -37,7 +36,3 @@ decode-leader-data value place = one leaderAnswer leader-tells _
 -- diag_values::decode_mac_counters
 pub decode-mac-counters : (value : List ℕ) (place : ℕ) → One (λ (r : ReadMacCounters). countersAnswer r ≡ onGiven countersOf (valueOf 9 place value))
 decode-mac-counters value place = one countersAnswer counters-tells _
-
--- diag_values::decode_connectivity
-pub decode-connectivity : (value : List ℕ) (place : ℕ) → One (λ (r : ReadConnectivity). connectivityAnswer r ≡ onGiven connectivityOf (valueOf 4 place value))
-decode-connectivity value place = one connectivityAnswer connectivity-tells _

@@ -4,6 +4,7 @@ pub mod Wire
 pub mod Tlv
 pub mod TlvWriting
 pub mod TlvRewriting
+pub mod HexText
 pub mod Base16
 pub mod Utf8
 pub mod Values
@@ -23,6 +24,7 @@ pub mod NetworkTables
 pub mod NetworkBridge
 pub mod DiagRules
 pub mod DiagValues
+pub mod Connectivity
 pub mod Route64
 pub mod DiagRows
 pub mod DiagEntries

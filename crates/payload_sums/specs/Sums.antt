@@ -7,7 +7,7 @@ use lib.Dec.{eqb}
 use mir.Syntax.{w8}
 use mir.Val.{ofZ}
 use Rattle.refusal.specs.Answer.{pick, Answer, given, absent, refused}
-use Rattle.diag_values.specs.Values.{ConnectivityValue}
+use Rattle.connectivity.specs.Connectivity.{ConnectivityValue}
 use Rattle.diag_rows.specs.Rows.{Part}
 use Rattle.diag_values.specs.declared.LeaderData.{LeaderData}
 use Rattle.diag_values.specs.declared.MacCounters.{MacCounters}

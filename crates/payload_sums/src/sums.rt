@@ -1,4 +1,5 @@
 // The fields of a diagnostic record as one number, so that none of them is read in vain.
+use connectivity::Connectivity;
 use diag::NetDiagData;
 use diag::OptConnectivity;
 use diag::OptLeaderData;
@@ -7,7 +8,6 @@ use diag::OptMode;
 use diag::OptNetworkData;
 use diag::OptPart;
 use diag::OptU32;
-use diag_values::Connectivity;
 use diag_values::LeaderData;
 use diag_values::MacCounters;
 use diag_values::OptU8;
@@ -16,7 +16,8 @@ use value_sums::counts_sum;
 use value_sums::mode_sum;
 use value_sums::plus;
 ghost use mathlib.Core.Path.{_≡_};
-ghost use Rattle.diag_values.specs.Answers.{optAnswer8, optAnswer16, connectivityPaper};
+ghost use Rattle.diag_values.specs.Answers.{optAnswer8, optAnswer16};
+ghost use Rattle.connectivity.specs.Answers.{connectivityPaper};
 ghost use Rattle.diag.specs.Answers.{optAnswer32, optMode, optConnectivity, optLeaderData, optMacCounters, optPart, optNetworkData, diagOf};
 ghost use Rattle.value_sums.specs.Sums.{modeSum};
 ghost use Rattle.payload_sums.specs.Sums.{orZero, number, rank, connectivitySum, leaderSum, countersSum, networkSum, partLen, valuesSum, partsSum};

@@ -16,7 +16,8 @@ ghost use Rattle.tlv.specs.Limits.{count};
 ghost use Rattle.tlv_last.specs.Last.{lastValue};
 ghost use Rattle.tlv_rewriting.specs.Rewrite.{rewritten};
 ghost use Rattle.tlv_rewriting.specs.declared.Choice.the-variants.{All};
-ghost use Rattle.base16.specs.Base16.{decoded, hexText};
+ghost use Rattle.hex_text.specs.HexText.{hexText};
+ghost use Rattle.base16.specs.Base16.{decoded};
 ghost use Rattle.utf8.specs.Utf8.{octets};
 ghost use Rattle.change_folds.specs.Run.{ran};
 ghost use Rattle.change_folds.specs.Fold.{folded};
@@ -77,7 +78,7 @@ pub extern "C" fn speed_unhex(text: &[u8], out: &mut [u8]) -> u64
 pub extern "C" fn speed_hex(bytes: &[u8], out: &mut [u8]) -> u64
     ensures { λ r. ⌜ (r ≡ code (emit (given (hexText (now (bytes .entry)))) (now (out .entry)) .answer)) × (now (out .exit) ≡ emit (given (hexText (now (bytes .entry)))) (now (out .entry)) .left) ⌝ }
 {
-    coded(base16::encode(bytes, out))
+    coded(hex_text::encode(bytes, out))
 }
 
 #[no_mangle]

@@ -8,11 +8,11 @@ use crate::put_mac_counters;
 use crate::put_mode;
 use crate::put_route64_head;
 use crate::put_rows;
+use connectivity::ReadConnectivity;
 use diag_rows::ReadAddressList;
 use diag_rules::Judged;
 use diag_values::ModeData;
 use diag_values::Read8;
-use diag_values::ReadConnectivity;
 use diag_values::ReadLeaderData;
 use diag_values::ReadMacCounters;
 use diag_values::ReadMode;
@@ -227,7 +227,7 @@ fn put_fixed(text: &mut Room, at: usize, ty: u8, value: &[u8]) -> usize {
 pub(crate) fn put_bare(text: &mut Room, at: usize, ty: u8, value: &[u8]) -> usize {
     match ty {
         0 | 17 | 18 | 23 => put_bytes(text, at, ty, value),
-        4 => put_bare_connectivity(text, at, ty, diag_values::decode_connectivity(value, 0)),
+        4 => put_bare_connectivity(text, at, ty, connectivity::decode_connectivity(value, 0)),
         5 => put_bare_route64(text, at, ty, route64::decode_route64(value, 0)),
         8 => put_addresses(text, at, ty, value),
         16 => put_children(text, at, ty, value),

@@ -4,7 +4,7 @@ mod kinds;
 mod requested;
 
 use bare::put_bare;
-use diag_values::Connectivity;
+use connectivity::Connectivity;
 use diag_values::LeaderData;
 use diag_values::MacCounters;
 use diag_values::ModeData;

@@ -4,7 +4,8 @@ use mathlib.Core.Path.{ap, _∙_}
 use lib.Dec.{lit<}
 use Rattle.refusal.specs.Answer.{onGiven}
 use Rattle.wire.specs.Be.{be}
-use Rattle.diag_values.specs.Values.{modeValue, connectivityOf, leaderOf, countersOf}
+use Rattle.diag_values.specs.Values.{modeValue, leaderOf, countersOf}
+use Rattle.connectivity.specs.Connectivity.{connectivityOf}
 use Rattle.diag.specs.Diag.{byteOf}
 use Rattle.diag.specs.Loops.{readAt, networkAt, partOf}
 use Rattle.diag.proofs.Fields.{read-15}

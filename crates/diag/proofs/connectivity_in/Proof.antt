@@ -4,7 +4,7 @@ use mathlib.Core.Path.{sym, ap, _∙_}
 use native.Mathlib.Omega.{arith}
 use native.Mathlib.Nat.{add-sub-cancel-left}
 use Rattle.tlv_last.specs.Answers.{foundAnswer}
-use Rattle.diag_values.specs.Answers.{connectivityAnswer}
+use Rattle.connectivity.specs.Answers.{connectivityAnswer}
 use Rattle.diag.specs.Loops.{orNone}
 use Rattle.diag.proofs.Fields.{in-payload, read-by, read-none, none-connectivity}
 use borrow.Author.Needs.{needs}

@@ -1,12 +1,12 @@
--- `diag_values::connectivity_of` meets its contract.
+-- `connectivity::connectivity_of` meets its contract.
 -- Assumes nothing.
 use mathlib.Core.Path.{_∙_}
 use mir.ValLaws.{toZ-ofZ}
 use mir.Syntax.{w8}
-use Rattle.diag_values.proofs.Late.{connectivity-is}
+use Rattle.connectivity.proofs.Late.{connectivity-is}
 use borrow.Author.Needs.{needs}
-use Rattle.diag_values.proofs.connectivity_of.Statement.{statement}
-use Rattle.diag_values.proofs.connectivity_of.Tie as tie
+use Rattle.connectivity.proofs.connectivity_of.Statement.{statement}
+use Rattle.connectivity.proofs.connectivity_of.Tie as tie
 
 buffer-size-requires : tie.Need-buffer-size-requires
 buffer-size-requires c κs = search needs

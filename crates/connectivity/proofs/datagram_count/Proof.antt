@@ -1,10 +1,10 @@
--- `diag_values::datagram_count` meets its contract.
+-- `connectivity::datagram_count` meets its contract.
 -- Assumes nothing.
 use borrow.Author.Tests.{le-leb, lt-leb}
-use Rattle.diag_values.specs.Values.{datagramsOf}
+use Rattle.connectivity.specs.Connectivity.{datagramsOf}
 use borrow.Author.Needs.{needs}
-use Rattle.diag_values.proofs.datagram_count.Statement.{statement}
-use Rattle.diag_values.proofs.datagram_count.Tie as tie
+use Rattle.connectivity.proofs.datagram_count.Statement.{statement}
+use Rattle.connectivity.proofs.datagram_count.Tie as tie
 
 returns : tie.Need-returns
 unfolding datagramsOf

@@ -1,4 +1,4 @@
--- `base16::put_text` meets its contract. The invariant: the text of the bytes from i on, stored from 2 * i on, makes of out what the whole text makes of it.
+-- `hex_text::put_text` meets its contract. The invariant: the text of the bytes from i on, stored from 2 * i on, makes of out what the whole text makes of it.
 -- Assumes nothing.
 use mathlib.Core.Path.{_≡_, refl, sym, _∙_}
 use Prim.Native.Nat.{_*_, _-_, _≤_}
@@ -6,10 +6,10 @@ use native.Mathlib.Omega.{arith}
 use lib.ListN.{length, drop, length-set}
 use borrow.Author.Needs.{needs}
 use Rattle.refusal.specs.Output.{put}
-use Rattle.base16.specs.Base16.{hexText}
-use Rattle.base16.proofs.Texts.{text-next, text-end}
-use Rattle.base16.proofs.put_text.Statement.{statement}
-use Rattle.base16.proofs.put_text.Tie as tie
+use Rattle.hex_text.specs.HexText.{hexText}
+use Rattle.hex_text.proofs.Texts.{text-next, text-end}
+use Rattle.hex_text.proofs.put_text.Statement.{statement}
+use Rattle.hex_text.proofs.put_text.Tie as tie
 
 abbrev Inv-loop : tie.InvT-loop
 Inv-loop bytes out₀ i₀ out i =

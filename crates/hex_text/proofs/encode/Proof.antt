@@ -1,12 +1,12 @@
--- `base16::encode` meets its contract.
+-- `hex_text::encode` meets its contract.
 -- Assumes nothing.
 use mathlib.Core.Path.{refl, sym}
 use native.Mathlib.Omega.{arith}
 use borrow.Author.Needs.{needs}
 use Rattle.laws.proofs.Emits.{emit-no-room, emit-done}
-use Rattle.base16.proofs.Texts.{length-text}
-use Rattle.base16.proofs.encode.Statement.{statement}
-use Rattle.base16.proofs.encode.Tie as tie
+use Rattle.hex_text.proofs.Texts.{length-text}
+use Rattle.hex_text.proofs.encode.Statement.{statement}
+use Rattle.hex_text.proofs.encode.Tie as tie
 
 refuse-requires : tie.Need-refuse-requires
 refuse-requires c κs = search needs

@@ -9,7 +9,7 @@ use lib.ListN.{length, drop, getD, set, drop-of-length-le}
 use lib.Seq.{drop-cons}
 use Rattle.refusal.specs.Output.{put}
 use Rattle.laws.proofs.Puts.{put-none, put-byte}
-use Rattle.base16.specs.Base16.{digit, hexText}
+use Rattle.hex_text.specs.HexText.{digit, hexText}
 
 pub length-text : (bs : List ℕ) → length (hexText bs) ≡ 2 * length bs
 unfolding hexText

@@ -1,12 +1,12 @@
--- `diag_values::decode_connectivity` meets its contract.
+-- `connectivity::decode_connectivity` meets its contract.
 -- Assumes nothing.
 use mathlib.Core.Path.{sym, ap, _∙_}
-use Rattle.diag_values.specs.Values.{connectivityOf}
+use Rattle.connectivity.specs.Connectivity.{connectivityOf}
 use Rattle.diag_rules.specs.Answers.{judgedAnswer}
 use Rattle.diag_rules.proofs.Kept.{read-kept, read-refused, connectivity-size}
 use borrow.Author.Needs.{needs}
-use Rattle.diag_values.proofs.decode_connectivity.Statement.{statement}
-use Rattle.diag_values.proofs.decode_connectivity.Tie as tie
+use Rattle.connectivity.proofs.decode_connectivity.Statement.{statement}
+use Rattle.connectivity.proofs.decode_connectivity.Tie as tie
 
 check-value-requires : tie.Need-check-value-requires
 check-value-requires c κs = search needs

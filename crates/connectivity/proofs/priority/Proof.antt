@@ -1,9 +1,9 @@
--- `diag_values::priority` meets its contract.
+-- `connectivity::priority` meets its contract.
 -- Assumes nothing.
 use borrow.Author.Tests.{eq-eqb, ne-eqb}
-use Rattle.diag_values.specs.Values.{priorityOf}
-use Rattle.diag_values.proofs.priority.Statement.{statement}
-use Rattle.diag_values.proofs.priority.Tie as tie
+use Rattle.connectivity.specs.Connectivity.{priorityOf}
+use Rattle.connectivity.proofs.priority.Statement.{statement}
+use Rattle.connectivity.proofs.priority.Tie as tie
 
 returns : tie.Need-returns
 unfolding priorityOf

@@ -1,10 +1,10 @@
--- `base16::digit_of` meets its contract.
+-- `hex_text::digit_of` meets its contract.
 -- Assumes nothing.
 use borrow.Author.Tests.{lt-ltb, le-ltb}
 use borrow.Author.Needs.{needs}
-use Rattle.base16.specs.Base16.{digit}
-use Rattle.base16.proofs.digit_of.Statement.{statement}
-use Rattle.base16.proofs.digit_of.Tie as tie
+use Rattle.hex_text.specs.HexText.{digit}
+use Rattle.hex_text.proofs.digit_of.Statement.{statement}
+use Rattle.hex_text.proofs.digit_of.Tie as tie
 
 add-result : tie.Need-add-result
 add-result c = search needs

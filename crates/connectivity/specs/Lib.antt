@@ -1,0 +1,2 @@
+pub mod Connectivity
+pub mod Answers
