@@ -3,14 +3,16 @@
 use mathlib.Core.Path.{_≡_, refl, sym, ap, _∙_}
 use mathlib.Core.Logic.{_↔_}
 use mathlib.Core.List.{List, [], _∷_, _++_}
-use Prim.Native.Nat.{ℕ, _<_}
+use Prim.Native.Nat.{ℕ, _≤_, _<_}
+use lib.ListN.{length}
 use native.Mathlib.Omega.{arith}
-use Rattle.refusal.specs.Answer.{given}
-use Rattle.tlv.specs.Entries.{entry, contents, valued, first, step, frames, framing}
+use Rattle.refusal.specs.Answer.{Answer, given, absent, refused, thenDo, onGiven}
+use Rattle.tlv.specs.Entries.{Entry, Content, entry, contents, valued, first, step, frames, framing}
 use Rattle.tlv.specs.Limits.{limited, framed}
-use Rattle.tlv_writing.specs.Encode.{sized}
-use Rattle.change_lists.specs.Operations.{Op, bare, encodeOps}
-use Rattle.change_folds.specs.Run.{runAll, ran}
+use Rattle.tlv_writing.specs.Encode.{encodeAll, sized}
+use Rattle.tlv_writing.proofs.Round.{parse-written}
+use Rattle.change_lists.specs.Operations.{Op, OpAt, bare, encodeOps, operations}
+use Rattle.change_folds.specs.Run.{perform, runAll, ran}
 use Rattle.change_folds.specs.Fold.{types, foldAll, sizedOps, folded, foldedTwo}
 use Rattle.change_folds.specs.Demand.{Changes, Dataset}
 use Rattle.laws.proofs.Parts.{every-append}
@@ -18,7 +20,8 @@ use Rattle.change_folds.proofs.Folds.{Typed, run-fold, fold-fold, fold-
 use Rattle.change_folds.proofs.Backs.{ops-alike}
 use Rattle.change_lists.proofs.Given.{input-alike}
 use Rattle.change_lists.proofs.Reading.{Writable}
-use Rattle.change_folds.proofs.Limits.{ops-within, typed, fold-given, made}
+use Rattle.change_folds.proofs.Limits.{ops-within, read-short, tested, typed, fold-given, made}
+use Rattle.change_folds.proofs.Weights.{fold-bytes}
 use Rattle.change_folds.proofs.Effects.{run-empty, same-effects}
 
 -- ---- what the calls answer, by the list's operations
@@ -114,3 +117,38 @@ always-folds a c =
 pub empty-fits : (a : List ℕ) → Changes a → (x : List ℕ) × (ran [] a ≡ given x)
 unfolding contents no-entry
 empty-fits a c = (_, ran-is c no-entry ∙ run-empty (does c) (ops-within c))
+
+run-append : (os ps : List Op) (cs : List Content) → runAll (os ++ ps) cs ≡ runAll ps (runAll os cs)
+unfolding runAll
+run-append [] ps cs = refl
+run-append (o ∷ os) ps cs = run-append os ps (perform o cs)
+
+given-alike : (x y : List Content) → _≡_ {A = Answer (List Content)} (given x) (given y) → x ≡ y
+given-alike x y h = cc
+
+then-run : (f : Answer (List Entry)) (rs : List Content) {b : List ℕ} (e : Changes b) → onGiven contents f ≡ given rs
+    → thenDo f (λ (es : List Entry). thenDo (operations 1 b) (λ (os : List OpAt). sized (runAll (bare os) (contents es)))) ≡ sized (runAll (does e) rs)
+then-run (given es) rs {b} e h = rw (input-alike 0 1 b (e .ops) (e .within)) (ap (λ (r : List Content). sized (runAll (does e) r)) (given-alike _ _ h))
+then-run absent rs e h = absurd (let z : _≡_ {A = ℕ} 0 1 = cc in omega arith)
+then-run (refused n p i) rs e h = absurd (let z : _≡_ {A = ℕ} 0 1 = cc in omega arith)
+
+-- Running what two lists fold to is running the first, and the second on what that wrote.
+pub two-run : (a b x d m : List ℕ) → Changes a → Changes b → Dataset d → foldedTwo a b ≡ given x → ran d a ≡ given m → ran d x ≡ ran m b
+unfolding ran sized
+two-run a b x d m c e s h k =
+    let cs = contents (s .entries) in
+    let os = does c ++ does e in
+    let good = every-append _ (does c) (does e) (writable c) (writable e) in
+    let n = made os x good (sym (two-is c e) ∙ h) in
+    let w = tested (encodeAll (runAll (does c) cs)) _ m (sym (ran-is c s) ∙ k) in
+    ran-is (n .0) s
+    ∙ ap sized (rw (n .1) (run-fold os (typed os good) cs) ∙ run-append (does c) (does e) cs)
+    ∙ sym (rw (← w .0) (then-run (framed 0 (encodeAll (runAll (does c) cs))) _ e (parse-written 0 _ (w .1) (w .2))))
+
+-- No list with the same effect on every dataset is shorter than what a list folds to.
+pub shortest : (a b x : List ℕ) → Changes a → Changes b → ((d : List ℕ) → Dataset d → ran d a ≡ ran d b) → folded a ≡ given x → length x ≤ length b
+shortest a b x c e h k =
+    let same = same-fold-same-effect a b c e .1 h in
+    let both = sym k ∙ same ∙ folded-given e in
+    let bytes : x ≡ encodeOps (foldAll (does e)) = cc in
+    rw bytes (omega (arith, fold-bytes (does e), read-short e))

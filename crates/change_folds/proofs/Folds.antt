@@ -57,6 +57,10 @@ touches-removals (suc n) os t =
 
 -- ---- a property of every operation
 
+-- what `foldAll` is made of, for the laws that any fold of this shape keeps
+abbrev shape : List Op → List Op
+shape os = removalsBelow types (lasts os) ++ setsOf (lasts os)
+
 module _ (P : Op → Type 0) where
   every-lasts : (os : List Op) → Every P os → Every P (lasts os)
   unfolding lasts
@@ -77,9 +81,8 @@ module _ (P : Op → Type 0) where
       every-append P (removalsBelow n os) (pick (removes os n) (remove n ∷ []) []) (every-removals n os (λ t l. h t (omega arith)))
       (pick-all (Every P) (removes os n) (remove n ∷ []) [] (λ e. (h n (omega arith), tt)) (λ e. tt))
 
-  pub every-fold : (os : List Op) → ((t : ℕ) → t < types → P (remove t)) → Every P os → Every P (foldAll os)
-  unfolding foldAll
-  every-fold os r h =
+  every-shape : (os : List Op) → ((t : ℕ) → t < types → P (remove t)) → Every P os → Every P (shape os)
+  every-shape os r h =
       every-append P (removalsBelow types (lasts os)) (setsOf (lasts os)) (every-removals types (lasts os) r)
       (every-sets (lasts os) (every-lasts os h))
 
@@ -92,10 +95,6 @@ unfolding touches
 touches-typed [] g t h = refl
 touches-typed (o ∷ os) g t h = rw (ne-eqb (about o) t (λ e. omega arith)) (touches-typed os (g .1) t h)
 
-typed-fold : (os : List Op) → Typed os → Typed (foldAll os)
-unfolding about
-typed-fold os g = every-fold (λ (o : Op). about o < types) os (λ t l. l) g
-
 -- ---- what a fold sets and touches
 
 last-sets : (os : List Op) → setsOf (lasts (setsOf (lasts os))) ≡ setsOf (lasts os)
@@ -105,29 +104,51 @@ last-sets (set c ∷ os) =
     by-test (touches os (c .ty)) (λ e. rw e (last-sets os)) (λ e. rw (e, not-set os (c .ty) e) (ap (λ r. set c ∷ r) (last-sets os)))
 last-sets (remove t ∷ os) = by-test (touches os t) (λ e. rw e (last-sets os)) (λ e. rw e (last-sets os))
 
-fold-sets : (os : List Op) → setsOf (lasts (foldAll os)) ≡ setsOf (lasts os)
-unfolding foldAll others
-fold-sets os = sets-append (removalsBelow types (lasts os)) (setsOf (lasts os)) ∙ rw (sets-removals types (lasts os), last-sets os)
+shape-sets : (os : List Op) → setsOf (lasts (shape os)) ≡ setsOf (lasts os)
+unfolding others
+shape-sets os = sets-append (removalsBelow types (lasts os)) (setsOf (lasts os)) ∙ rw (sets-removals types (lasts os), last-sets os)
 
-fold-touches : (os : List Op) → Typed os → touches (foldAll os) ≡ touches os
-unfolding foldAll
-fold-touches os g = fun-ext λ t.
+shape-touches : (os : List Op) → Typed os → touches (shape os) ≡ touches os
+shape-touches os g = fun-ext λ t.
     touches-append (removalsBelow types (lasts os)) (setsOf (lasts os)) t
     ∙ rw (touches-removals types (lasts os) t)
     (by-test (ltb t types)
     (λ e. rw e (last-set-or-removed os t))
     (λ e. let un = touches-typed os g t (ltb-false t types e) in rw (e, un) (not-set os t un)))
 
--- ---- what folds to the same
+-- ---- the two halves of demand 3: equal effects need equal folds, and the fold has the effect. They are the first to open `foldAll`
 
 pub fold-same : (a b : List Op) → ((t : ℕ) → t < types → touches a t ≡ touches b t) → setsOf (lasts a) ≡ setsOf (lasts b) → foldAll a ≡ foldAll b
 unfolding foldAll
 fold-same a b h e =
     let removed = removals-same (lasts a) (lasts b) types (λ t l. removed-is a t ∙ rw (h t l, e) (sym (removed-is b t))) in
-    rw (removed, e)
+    cc
 
+run-shape : (os : List Op) → Typed os → (cs : List Content) → runAll (shape os) cs ≡ runAll os cs
+run-shape os g cs = run-is (shape os) cs ∙ rw (shape-touches os g, shape-sets os) (sym (run-is os cs))
+
+-- a fold has the effect of its list
 pub run-fold : (os : List Op) → Typed os → (cs : List Content) → runAll (foldAll os) cs ≡ runAll os cs
-run-fold os g cs = run-is (foldAll os) cs ∙ rw (fold-touches os g, fold-sets os) (sym (run-is os cs))
+unfolding foldAll
+run-fold os g cs = run-shape os g cs
+
+-- ---- what else is so of a fold
+
+pub every-fold : (P : Op → Type 0) (os : List Op) → ((t : ℕ) → t < types → P (remove t)) → Every P os → Every P (foldAll os)
+unfolding foldAll
+every-fold P os r h = every-shape P os r h
+
+fold-sets : (os : List Op) → setsOf (lasts (foldAll os)) ≡ setsOf (lasts os)
+unfolding foldAll
+fold-sets os = shape-sets os
+
+fold-touches : (os : List Op) → Typed os → touches (foldAll os) ≡ touches os
+unfolding foldAll
+fold-touches os g = shape-touches os g
+
+typed-fold : (os : List Op) → Typed os → Typed (foldAll os)
+unfolding about
+typed-fold os g = every-fold (λ (o : Op). about o < types) os (λ t l. l) g
 
 pub fold-fold : (os : List Op) → Typed os → foldAll (foldAll os) ≡ foldAll os
 fold-fold os g = fold-same (foldAll os) os (λ t l. rw (fold-touches os g)) (fold-sets os)

@@ -90,6 +90,13 @@ ops-within {l} c =
     let g = rw (r .are) at (read-good l (c .octets)) in
     record { writable = g .1; short = omega (arith, g .0, r .short); few = omega (arith, length-bare (c .ops), r .few) }
 
+-- a list is never shorter than its operations as they are written
+pub read-short : {l : List ℕ} (c : Changes l) → length (encodeOps (bare (c .ops))) ≤ length l
+read-short {l} c =
+    let r = was-given 0 l (c .ops) (c .within) in
+    let g = rw (r .are) at (read-good l (c .octets)) in
+    g .0
+
 fold-writable : (os : List Op) → Writable os → Writable (foldAll os)
 unfolding encodeOp types
 fold-writable os g = every-fold _ os (λ t l. (omega arith, (omega arith, (l, tt)))) g

@@ -13,7 +13,7 @@ use Rattle.refusal.specs.Number.{refusalAnswer}
 use Rattle.refusal.specs.declared.Refusal.{Refusal}
 use Rattle.refusal.specs.declared.Fault.the-variants.{NoRoom}
 use Rattle.laws.proofs.Tests.{by-test}
-use Rattle.network_framing.specs.Walk.{walk, walkIn}
+use Rattle.network_framing.specs.Frame.{walkIn}
 use Rattle.network_data.specs.Rules.{ended, values, checkFrom, checkValue}
 use Rattle.network_data.specs.Decode.{Prefix, prefixes, contents, allRoutes, allBorders, countsOf, decodeNetworkData}
 use Rattle.network_data.specs.Answers.{checkedAnswer}
@@ -42,7 +42,7 @@ unfolding roomFor countsOf allRoutes allBorders
 room-none p h b = simp (le-leb 0 p (omega arith), le-leb 0 h (omega arith), le-leb 0 b (omega arith))
 
 decodes-none : decodeNetworkData 0 [] ≡ given []
-unfolding decodeNetworkData contents checkValue checkFrom walkIn walk values ended prefixes
+unfolding decodeNetworkData contents checkValue checkFrom walkIn values ended prefixes
 decodes-none = refl
 
 -- the last of the three tests decides

@@ -4,6 +4,7 @@ use refusal::Written;
 use tlv::Counted;
 use tlv::Frame;
 ghost use mathlib.Core.Path.{_≡_};
+ghost use mathlib.Core.List.{[], _∷_};
 ghost use Prim.Native.Nat.{_+_, _*_, _≤_};
 ghost use lib.ListN.{length, take};
 ghost use Rattle.refusal.specs.Answer.{given, refused};
@@ -11,12 +12,19 @@ ghost use Rattle.refusal.specs.Sizes.{mostBytes};
 ghost use Rattle.refusal.specs.Output.{output, emit, put, writtenAnswer};
 ghost use Rattle.tlv.specs.Entries.{framing};
 ghost use Rattle.listing.specs.Decimal.{decimal};
-ghost use Rattle.listing.specs.Listing.{pairLine, entryLines, listing, listed, listedHex, lineOf, told, report};
+ghost use Rattle.listing.specs.Listing.{pairLine, entryLines, listing, listed, listedHex, lineOf, told, report, reportReads, reportBytes};
 
 // The program `list` reads no more than this: with one byte more than the digits and their newline, a text that is too long is told apart.
 pub const REPORT_READS: usize = refusal::MAX_DIGITS + 2;
 // And what it prints is never longer than this.
 pub const REPORT_BYTES: usize = 16 * refusal::MAX_ENTRIES;
+
+// The public constants, held to their numbers.
+fn constants() -> [usize; 2]
+    ensures { λ r. ⌜ r ≡ reportReads ∷ reportBytes ∷ [] ⌝ }
+{
+    [REPORT_READS, REPORT_BYTES]
+}
 
 // How many digits n has.
 fn decimal_len(n: usize) -> usize

@@ -9,12 +9,10 @@ use lib.Dec.{eqb, leb, ltb}
 use Rattle.refusal.specs.Sizes.{mostBytes, mostPrefixes, mostHasRoutes, mostBorderRouters}
 use Rattle.refusal.specs.Answer.{pick, Answer, given, absent, refused, thenDo, onGiven}
 use Rattle.laws.proofs.Tests.{by-test}
-use Rattle.network_framing.specs.Walk.{Stop, clean, short, Piece, walkIn}
+use Rattle.network_framing.specs.Tlvs.{Stop, clean, short, Piece}
+use Rattle.network_framing.specs.Frame.{walkIn, headAt}
 use Rattle.network_data.specs.Rules.{counts, join, rule, ended, rules, checkIn, checkHead, checkPrefix, values, checkFrom, checkValue}
-use Rattle.network_framing.specs.Frame.{headAt}
 use Rattle.network_data.specs.Decode.{Prefix, contents, decodeNetworkData}
-use Rattle.network_framing.specs.declared.Head.{Head}
-use Rattle.network_framing.specs.declared.Head.the-variants.{Inner, Short}
 use Rattle.network_data.specs.declared.Counts.{Counts}
 
 -- the same, refused at p
@@ -57,10 +55,11 @@ module _ (p q : ℕ) where
       ∙ then-placed (rule q c (e .ty) (e .len)) (λ (d : Counts). rules p d st es) (λ (d : Counts). rules q d st es) (λ d. rules-placed d st es)
 
   module _ (s : List ℕ) where
-    head-placed : (c : Counts) (end : ℕ) (x : Head) → checkHead p s c end x ≡ placed p (checkHead q s c end x)
+    head-placed : (c : Counts) (end : ℕ) (x : Answer ℕ) → checkHead p s c end x ≡ placed p (checkHead q s c end x)
     unfolding checkHead checkIn placed
-    head-placed c end Short = refl
-    head-placed c end (Inner at) = rules-placed c (walkIn s at end .stop) (walkIn s at end .items)
+    head-placed c end absent = refl
+    head-placed c end (refused n r i) = refl
+    head-placed c end (given at) = rules-placed c (walkIn s at end .stop) (walkIn s at end .items)
 
     prefix-placed : (c : Counts) (start end : ℕ) → checkPrefix p s c start end ≡ placed p (checkPrefix q s c start end)
     unfolding checkPrefix placed

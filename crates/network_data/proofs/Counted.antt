@@ -10,12 +10,10 @@ use lib.ListN.{length, length-append, length-map}
 use lib.Dec.{eqb, leb, ltb}
 use borrow.Author.Tests.{eqb-true, ne-eqb, lt-ltb, le-ltb}
 use Rattle.refusal.specs.Answer.{pick, Answer, given, absent, refused, thenDo, onGiven}
-use Rattle.network_framing.specs.Walk.{Stop, clean, short, Piece, walkIn}
+use Rattle.network_framing.specs.Tlvs.{Stop, clean, short, Piece}
+use Rattle.network_framing.specs.Frame.{walkIn, headAt}
 use Rattle.network_data.specs.Rules.{counts, join, rule, ended, rules, checkIn, checkHead, checkPrefix, values, checkFrom, checkValue}
-use Rattle.network_framing.specs.Frame.{headAt}
 use Rattle.network_data.specs.Decode.{rowPlaces, placesIn, Prefix, headItems, inner, prefixAt, prefixes, contents, decodeNetworkData, allRoutes, allBorders, countsOf}
-use Rattle.network_framing.specs.declared.Head.{Head}
-use Rattle.network_framing.specs.declared.Head.the-variants.{Inner, Short}
 use Rattle.network_data.specs.declared.Counts.{Counts}
 use Rattle.laws.proofs.Tests.{pick-all, by-test}
 use Rattle.refusal.specs.Sizes.{mostBytes, mostPrefixes, mostHasRoutes, mostBorderRouters}
@@ -96,10 +94,11 @@ rules-adds p c st (e ∷ es) =
     (then-adds c 0 _ _ 0 _ _ (rule p c (e .ty) (e .len)) (λ d. rules p d st es) (rule-adds c p e) (λ d. rules-adds p d st es))
 
 module _ (p : ℕ) (s : List ℕ) where
-  head-adds : (c : Counts) (end : ℕ) (x : Head) → Adds c 1 (length (placesIn 0 3 (headItems s end x))) (length (placesIn 2 4 (headItems s end x))) (checkHead p s (counts (c .prefixes + 1) (c .«has_routes») (c .«border_routers»)) end x)
+  head-adds : (c : Counts) (end : ℕ) (x : Answer ℕ) → Adds c 1 (length (placesIn 0 3 (headItems s end x))) (length (placesIn 2 4 (headItems s end x))) (checkHead p s (counts (c .prefixes + 1) (c .«has_routes») (c .«border_routers»)) end x)
   unfolding checkHead headItems checkIn
-  head-adds c end Short = tt
-  head-adds c end (Inner at) =
+  head-adds c end absent = tt
+  head-adds c end (refused n q i) = tt
+  head-adds c end (given at) =
       simp zero-add at (more-by c (counts (c .prefixes + 1) (c .«has_routes») (c .«border_routers»)) 1 0 0 0 _ _ (rules p _ (walkIn s at end .stop) (walkIn s at end .items)) (refl, omega arith, omega arith)
       (rules-adds p _ (walkIn s at end .stop) (walkIn s at end .items)))
 

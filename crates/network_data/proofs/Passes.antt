@@ -5,7 +5,7 @@ use mathlib.Core.List.{List}
 use Prim.Native.Nat.{ℕ, _+_}
 use borrow.Author.Tests.{eq-eqb, ne-eqb}
 use Rattle.refusal.specs.Answer.{Answer, given, refused, thenDo}
-use Rattle.network_framing.specs.Walk.{Walk, clean, short, done, onto, Piece}
+use Rattle.network_framing.specs.Tlvs.{Walk, clean, short, done, onto, Piece}
 use Rattle.network_data.specs.Rules.{rule, ended, rules, checkIn, checkPrefix, values, checkFrom}
 use Rattle.network_data.specs.declared.Counts.{Counts}
 

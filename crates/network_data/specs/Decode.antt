@@ -6,11 +6,9 @@ use lib.ListN.{length, getD, take, drop, replicate}
 use lib.Dec.{eqb, ltb}
 use Rattle.refusal.specs.Sizes.{mostBytes}
 use Rattle.refusal.specs.Answer.{pick, Answer, given, absent, refused, onGiven}
-use Rattle.network_framing.specs.Walk.{Piece, walkIn}
+use Rattle.network_framing.specs.Tlvs.{Piece, bytesFor}
+use Rattle.network_framing.specs.Frame.{walkIn, headAt}
 use Rattle.network_data.specs.Rules.{counts, checkValue}
-use Rattle.network_framing.specs.Frame.{bytesFor, headAt}
-use Rattle.network_framing.specs.declared.Head.{Head}
-use Rattle.network_framing.specs.declared.Head.the-variants.{Inner, Short}
 use Rattle.network_data.specs.declared.Counts.{Counts}
 use Rattle.network_data.specs.declared.HasRouteEntry.{HasRouteEntry}
 use Rattle.network_data.specs.declared.BorderRouterEntry.{BorderRouterEntry}
@@ -73,9 +71,10 @@ pub record Prefix : Type 0 where
   pub routes : List HasRouteEntry
   pub borders : List BorderRouterEntry
 
-unfoldable pub headItems : List ℕ → (end : ℕ) → Head → List Piece
-headItems s end Short = []
-headItems s end (Inner at) = walkIn s at end .items
+unfoldable pub headItems : List ℕ → (end : ℕ) → Answer ℕ → List Piece
+headItems s end (given at) = walkIn s at end .items
+headItems s end absent = []
+headItems s end (refused n p i) = []
 
 -- the inner TLVs of a prefix whose value stands from start to end
 unfoldable pub inner : List ℕ → (start end : ℕ) → List Piece

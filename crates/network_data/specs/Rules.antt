@@ -6,11 +6,9 @@ use mathlib.Core.List.{List, [], _∷_}
 use lib.ListN.{length}
 use lib.Dec.{ltb, leb, eqb}
 use Rattle.refusal.specs.Sizes.{mostPrefixes, mostHasRoutes, mostBorderRouters}
-use Rattle.refusal.specs.Answer.{pick, Answer, given, refused, thenDo}
-use Rattle.network_framing.specs.Frame.{headAt}
-use Rattle.network_framing.specs.Walk.{Piece, Stop, clean, short, Walk, walkIn}
-use Rattle.network_framing.specs.declared.Head.{Head}
-use Rattle.network_framing.specs.declared.Head.the-variants.{Inner, Short}
+use Rattle.refusal.specs.Answer.{pick, Answer, given, absent, refused, thenDo}
+use Rattle.network_framing.specs.Tlvs.{Piece, Stop, clean, short, Walk}
+use Rattle.network_framing.specs.Frame.{headAt, walkIn}
 use Rattle.network_data.specs.declared.Counts.{Counts}
 
 abbrev pub counts : (prefixes hasRoutes borderRouters : ℕ) → Counts
@@ -42,9 +40,11 @@ rules p c st (e ∷ es) = thenDo (rule p c (e .ty) (e .len)) (λ (d : Counts). r
 unfoldable pub checkIn : (p : ℕ) → Counts → Walk → Answer Counts
 checkIn p c w = rules p c (w .stop) (w .items)
 
-unfoldable pub checkHead : (p : ℕ) → List ℕ → Counts → (end : ℕ) → Head → Answer Counts
-checkHead p s c end Short = refused 5 p 0
-checkHead p s c end (Inner at) = checkIn p c (walkIn s at end)
+-- the inner TLVs from the place that is given on
+unfoldable pub checkHead : (p : ℕ) → List ℕ → Counts → (end : ℕ) → Answer ℕ → Answer Counts
+checkHead p s c end (given at) = checkIn p c (walkIn s at end)
+checkHead p s c end absent = absent
+checkHead p s c end (refused n q i) = refused n p 0
 
 -- "the 65th prefix is refused before its contents are read"
 unfoldable pub checkPrefix : (p : ℕ) → List ℕ → Counts → (start end : ℕ) → Answer Counts

@@ -16,7 +16,7 @@ ghost use Prim.Native.Nat.{_≤_, _<_};
 ghost use lib.ListN.{length};
 ghost use Rattle.refusal.specs.Answer.{refused};
 ghost use Rattle.refusal.specs.Number.{faultNumber};
-ghost use Rattle.network_framing.specs.Walk.{walkIn};
+ghost use Rattle.network_framing.specs.Frame.{walkIn};
 ghost use Rattle.network_data.specs.Rules.{join, rule, checkIn, checkPrefix, checkValue};
 ghost use Rattle.network_data.specs.Answers.{sumAnswer, checkedAnswer};
 

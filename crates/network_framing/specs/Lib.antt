@@ -1,2 +1,3 @@
+pub mod Tlvs
 pub mod Frame
-pub mod Walk
+pub mod Place

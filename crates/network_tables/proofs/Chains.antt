@@ -10,8 +10,9 @@ use lib.Dec.{eqb, ltb, leb}
 use borrow.Author.Tests.{ltb-false}
 use Rattle.tables.specs.Tab.{tab, steps}
 use Rattle.refusal.specs.Answer.{pick, Answer, given, absent, refused, thenDo}
-use Rattle.network_framing.specs.Frame.{subIn, bytesFor, headAt}
-use Rattle.network_framing.specs.Walk.{Walk, Stop, Piece, piece, walkIn}
+use Rattle.network_framing.specs.Tlvs.{bytesFor, Walk, Stop, Piece, piece}
+use Rattle.network_framing.specs.Frame.{subIn, headAt, walkIn, subAnswer, headAnswer}
+use Rattle.network_framing.specs.Place.{subPlace, headPlace}
 use Rattle.network_data.specs.Rules.{counts, ended, checkIn, checkHead, checkPrefix, values, checkFrom, checkValue}
 use Rattle.network_data.specs.Decode.{prefixAt, prefixes, contents, entryOf}
 use Rattle.network_tables.specs.Cursor.{spanOf, Whole, SpanHere, entryAt, spanEnd}
@@ -24,6 +25,7 @@ use Rattle.network_tables.specs.declared.prefixes.Span.{Span}
 use Rattle.network_data.specs.declared.PrefixEntry.{PrefixEntry}
 use Rattle.laws.proofs.Tests.{pick-all, by-test}
 use Rattle.refusal.specs.Sizes.{mostPrefixes}
+use Rattle.network_framing.proofs.Agrees.{sub-agrees, head-agrees}
 use Rattle.network_framing.proofs.Walks.{turn-end, turn-cut, turn-items, turn-inside}
 use Rattle.tables.proofs.Follows.{follows, reaches}
 
@@ -31,7 +33,7 @@ use Rattle.tables.proofs.Follows.{follows, reaches}
 abbrev pub Next : List ℕ → (at end : ℕ) → Piece → List Piece → Type 0
 Next s at end e es = (es ≡ walkIn s (e .start + e .len) end .items) × (at + 2 ≤ e .start) × (e .start + e .len ≤ end)
 
-chain-by : (s : List ℕ) (at end : ℕ) (r : SubTlv) → r ≡ subIn s at end → (e : Piece) (es : List Piece) → e ∷ es ≡ walkIn s at end .items → Next s at end e es
+chain-by : (s : List ℕ) (at end : ℕ) (r : SubTlv) → subAnswer r ≡ subIn s at end → (e : Piece) (es : List Piece) → e ∷ es ≡ walkIn s at end .items → Next s at end e es
 chain-by s at end End f e es h =
     let w = ap (λ (x : Walk). x .items) (turn-end s at end End f refl) in
     absurd (let z : _≡_ {A = ℕ} 0 1 = cc in omega arith)
@@ -46,7 +48,7 @@ chain-by s at end (Item t a n) f e es h =
     subst (λ (p : Piece). Next s at end p es) x (sym y, i .0, i .1)
 
 pub chain : (s : List ℕ) (at end : ℕ) (e : Piece) (es : List Piece) → e ∷ es ≡ walkIn s at end .items → Next s at end e es
-chain s at end e es h = chain-by s at end (subIn s at end) refl e es h
+chain s at end e es h = chain-by s at end (subPlace s at end) (sub-agrees s at end) e es h
 
 -- ---- the prefixes
 unfoldable pub only : List Piece → List Piece
@@ -123,15 +125,22 @@ Passed G (given d) = G
 Passed G absent = Unit {0}
 Passed G (refused n p i) = Unit {0}
 
-abbrev Fits : List ℕ → (start end : ℕ) → Head → Type 0
-Fits s start end Short = Unit {0}
-Fits s start end (Inner at) = start + (2 + bytesFor (getD s (start + 1) 0)) ≤ end
+abbrev Fits : List ℕ → (start end : ℕ) → Answer ℕ → Type 0
+Fits s start end (given at) = start + (2 + bytesFor (getD s (start + 1) 0)) ≤ end
+Fits s start end absent = Unit {0}
+Fits s start end (refused n p i) = Unit {0}
+
+place-fits : (s : List ℕ) (start end : ℕ) → Fits s start end (headAnswer (headPlace s start end))
+unfolding headPlace
+place-fits s start end =
+    let P : Head → Type 0 = λ x. Fits s start end (headAnswer x) in
+    pick-all P (leb end start) Short _ (λ _. tt) (λ e0.
+    pick-all P (ltb (length s) end) Short _ (λ _. tt) (λ e1.
+    pick-all P (ltb (end - start) 2) Short _ (λ _. tt) (λ e2.
+    pick-all P (ltb (end - start) (2 + bytesFor (getD s (start + 1) 0))) Short (Inner _) (λ _. tt) (λ e3. omega (arith, ltb-false)))))
 
 head-fits : (s : List ℕ) (start end : ℕ) → Fits s start end (headAt s start end)
-unfolding headAt
-head-fits s start end =
-    pick-all (Fits s start end) (ltb (end - start) 2) Short _ (λ _. tt) (λ e1.
-    pick-all (Fits s start end) (ltb (end - start) (2 + bytesFor (getD s (start + 1) 0))) Short (Inner _) (λ _. tt) (λ e2. omega (arith, ltb-false)))
+head-fits s start end = subst (Fits s start end) (head-agrees s start end) (place-fits s start end)
 
 module _ (p : ℕ) (s : List ℕ) where
   weaker : (G G′ : Type 0) (a : Answer Counts) → (G → G′) → Passed G a → Passed G′ a
@@ -149,10 +158,11 @@ module _ (p : ℕ) (s : List ℕ) where
   any G absent g = tt
   any G (refused n q i) g = tt
 
-  head-passed : (c : Counts) (start end : ℕ) (x : Head) → end ≤ length s → Fits s start end x → Passed (Whole s (record { start = start; end = end })) (checkHead p s c end x)
+  head-passed : (c : Counts) (start end : ℕ) (x : Answer ℕ) → end ≤ length s → Fits s start end x → Passed (Whole s (record { start = start; end = end })) (checkHead p s c end x)
   unfolding checkHead
-  head-passed c start end Short l f = tt
-  head-passed c start end (Inner at) l f = any (Whole s (record { start = start; end = end })) (checkIn p c (walkIn s at end)) (f, l)
+  head-passed c start end absent l f = tt
+  head-passed c start end (refused n q i) l f = tt
+  head-passed c start end (given at) l f = any (Whole s (record { start = start; end = end })) (checkIn p c (walkIn s at end)) (f, l)
 
   prefix-passed : (c : Counts) (start end : ℕ) → end ≤ length s → Passed (Whole s (record { start = start; end = end })) (checkPrefix p s c start end)
   unfolding checkPrefix

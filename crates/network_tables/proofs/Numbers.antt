@@ -13,7 +13,7 @@ use Rattle.refusal.specs.Sizes.{mostBytes}
 use Rattle.refusal.specs.Answer.{Answer, given, absent, refused, thenDo, onGiven}
 use Rattle.laws.proofs.Tests.{by-test}
 use Rattle.network_data.specs.Rules.{checkValue}
-use Rattle.network_framing.specs.Walk.{walkIn}
+use Rattle.network_framing.specs.Frame.{walkIn}
 use Rattle.network_data.specs.Decode.{Prefix, contents, decodeNetworkData, allRoutes, allBorders, countsOf, entryOf}
 use Rattle.refusal.specs.Numbered.{nth}
 use Rattle.network_tables.specs.Cursor.{firstRow, nextRow, RowsTo, routeOf, borderOf, SpansTo, entryAt, spanEnd}

@@ -11,7 +11,7 @@ use Rattle.refusal.specs.Sizes.{mostBytes}
 use borrow.Author.Tests.{leb-true}
 use Rattle.tables.specs.Tab.{tab, steps}
 use Rattle.refusal.specs.Answer.{Answer, given, absent, refused, onGiven}
-use Rattle.network_framing.specs.Walk.{walkIn}
+use Rattle.network_framing.specs.Frame.{walkIn}
 use Rattle.network_data.specs.Rules.{counts, checkValue}
 use Rattle.network_data.specs.Decode.{Prefix, contents, entryOf, allRoutes, allBorders, countsOf, decodeNetworkData}
 use Rattle.network_data.specs.Answers.{checkedAnswer}

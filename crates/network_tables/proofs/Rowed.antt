@@ -9,13 +9,11 @@ use lib.ListN.{length, length-map}
 use lib.Dec.{eqb}
 use borrow.Author.Tests.{eqb-true, eqb-false, eq-eqb, ne-eqb, lt-ltb}
 use Rattle.tables.specs.Tab.{tab, steps}
-use Rattle.refusal.specs.Answer.{pick}
-use Rattle.network_framing.specs.Walk.{Piece, walkIn}
-use Rattle.network_framing.specs.Frame.{headAt}
+use Rattle.refusal.specs.Answer.{pick, Answer, given, absent, refused}
+use Rattle.network_framing.specs.Tlvs.{Piece}
+use Rattle.network_framing.specs.Frame.{walkIn, headAt}
 use Rattle.network_data.specs.Decode.{rowPlaces, placesIn, headItems, inner, prefixAt, prefixes, contents, routeAt, borderAt, allRoutes, allBorders}
 use Rattle.network_tables.specs.Cursor.{rows, orElse, rowsIn, rowsOut, firstRow, nextRow, RowHere, routeOf, borderOf}
-use Rattle.network_framing.specs.declared.Head.{Head}
-use Rattle.network_framing.specs.declared.Head.the-variants.{Inner, Short}
 use Rattle.network_tables.specs.declared.rows.Rows.{Rows}
 use Rattle.network_data.specs.declared.HasRouteEntry.{HasRouteEntry}
 use Rattle.network_data.specs.declared.BorderRouterEntry.{BorderRouterEntry}
@@ -87,15 +85,17 @@ module _ (ty size : ℕ) (s : List ℕ) where
         ∙ simp (t, sym (n .0), sym goes-on, append-assoc))))
         (λ t. rw (in-miss ty size end e es (eqb-false _ _ t)) (simp t go))
 
-    head-comes : (x : Head) → comes ty size s (orElse (rowsIn ty size end (headItems s end x)) d) ≡ placesIn ty size (headItems s end x) ++ comes ty size s d
+    head-comes : (x : Answer ℕ) → comes ty size s (orElse (rowsIn ty size end (headItems s end x)) d) ≡ placesIn ty size (headItems s end x) ++ comes ty size s d
     unfolding headItems placesIn rowsIn
-    head-comes Short = ap (comes ty size s) (or-second (rows 0 0 0 0) d (omega arith))
-    head-comes (Inner at) = in-comes (walkIn s at end .items) at refl
+    head-comes absent = ap (comes ty size s) (or-second (rows 0 0 0 0) d (omega arith))
+    head-comes (refused n p i) = ap (comes ty size s) (or-second (rows 0 0 0 0) d (omega arith))
+    head-comes (given at) = in-comes (walkIn s at end .items) at refl
 
-  head-good : (end : ℕ) → end ≤ length s → (x : Head) → Good size s (rowsIn ty size end (headItems s end x))
+  head-good : (end : ℕ) → end ≤ length s → (x : Answer ℕ) → Good size s (rowsIn ty size end (headItems s end x))
   unfolding headItems rowsIn
-  head-good end l Short = none-good
-  head-good end l (Inner at) = in-good end l (walkIn s at end .items) at refl
+  head-good end l absent = none-good
+  head-good end l (refused n p i) = none-good
+  head-good end l (given at) = in-good end l (walkIn s at end .items) at refl
 
   -- ---- in a value
   out-good : (es : List Piece) (at : ℕ) → es ≡ walkIn s at (length s) .items → Good size s (rowsOut ty size s es)

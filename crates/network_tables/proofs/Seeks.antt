@@ -7,10 +7,12 @@ use native.Mathlib.Omega.{arith}
 use native.Mathlib.Numerals.{add-one}
 use lib.ListN.{length, getD, take, drop, set, replicate, length-append, length-take, length-drop, length-map}
 use lib.Seq.{drop-cons, take-suc, set-at, append-snoc, length-take-le, take-all, getD-take, getD-drop}
-use borrow.Author.Tests.{eq-eqb, ne-eqb, le-ltb}
+use borrow.Author.Tests.{eq-eqb, ne-eqb, le-ltb, lt-leb}
 use Rattle.refusal.specs.Answer.{Answer, given, absent}
-use Rattle.network_framing.specs.Walk.{Piece, walkIn}
-use Rattle.network_framing.specs.Frame.{bytesFor, headAt}
+use Rattle.network_framing.specs.Tlvs.{Piece, bytesFor}
+use Rattle.network_framing.specs.Frame.{walkIn, headAt, headAnswer}
+use Rattle.network_framing.specs.Place.{headPlace}
+use Rattle.network_framing.proofs.Agrees.{head-agrees}
 use Rattle.network_data.specs.Decode.{placesIn, contextAt, lastContext, headItems, inner, prefixAt, padded, optContext, entryOf}
 use Rattle.network_tables.specs.Cursor.{rows, orElse, rowsIn, rowsOut, spanOf, Whole}
 use Rattle.network_framing.specs.declared.Head.the-variants.{Inner}
@@ -145,12 +147,15 @@ context-back (o.Some x) = refl
 context-back o.None = refl
 
 module _ (s : List ℕ) (x : Span) (w : Whole s x) where
-  pub whole-head : headAt s (x .start) (x .end) ≡ Inner (x .start + (2 + bytesFor (getD s (x .start + 1) 0)))
-  unfolding headAt
-  whole-head =
+  whole-place : headPlace s (x .start) (x .end) ≡ Inner (x .start + (2 + bytesFor (getD s (x .start + 1) 0)))
+  unfolding headPlace
+  whole-place =
       let a : 2 ≤ x .end - x .start = omega arith in
       let b : 2 + bytesFor (getD s (x .start + 1) 0) ≤ x .end - x .start = omega arith in
-      simp (le-ltb _ _ a, le-ltb _ _ b)
+      simp (lt-leb (x .end) (x .start) (omega arith), le-ltb (length s) (x .end) (w .1), le-ltb _ _ a, le-ltb _ _ b)
+
+  pub whole-head : headAt s (x .start) (x .end) ≡ given (x .start + (2 + bytesFor (getD s (x .start + 1) 0)))
+  whole-head = sym (head-agrees s (x .start) (x .end)) ∙ ap headAnswer whole-place
 
   abbrev items : List Piece
   items = walkIn s (x .start + (2 + bytesFor (getD s (x .start + 1) 0))) (x .end) .items

@@ -6,8 +6,8 @@ use lib.ListN.{length, getD}
 use lib.Dec.{eqb, ltb}
 use Rattle.tables.specs.Tab.{steps}
 use Rattle.refusal.specs.Answer.{pick}
-use Rattle.network_framing.specs.Walk.{Piece, walkIn}
-use Rattle.network_framing.specs.Frame.{bytesFor}
+use Rattle.network_framing.specs.Tlvs.{Piece, bytesFor}
+use Rattle.network_framing.specs.Frame.{walkIn}
 use Rattle.network_data.specs.Decode.{routeAt, borderAt, inner, prefixAt, entryOf}
 use Rattle.network_tables.specs.declared.rows.Rows.{Rows}
 use Rattle.network_tables.specs.declared.prefixes.Span.{Span}

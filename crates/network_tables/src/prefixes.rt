@@ -10,7 +10,7 @@ ghost use Prim.Native.Nat.{_+_, _≤_, _<_};
 ghost use lib.ListN.{length, take, drop};
 ghost use Rattle.tables.specs.Tab.{steps};
 ghost use Rattle.refusal.specs.Answer.{absent};
-ghost use Rattle.network_framing.specs.Walk.{walkIn};
+ghost use Rattle.network_framing.specs.Frame.{walkIn};
 ghost use Rattle.network_data.specs.Decode.{contextAt, placesIn, lastContext, prefixAt, padded, entryOf};
 ghost use Rattle.network_tables.specs.Answers.{contextAnswer};
 ghost use Rattle.network_tables.specs.Cursor.{spanOf, Whole, SpanHere, SpansTo, entryAt, spanEnd};

@@ -10,7 +10,7 @@ ghost use mathlib.Core.Path.{_≡_};
 ghost use Prim.Native.Nat.{_≤_, _<_};
 ghost use lib.ListN.{length};
 ghost use Rattle.tables.specs.Tab.{steps};
-ghost use Rattle.network_framing.specs.Walk.{walkIn};
+ghost use Rattle.network_framing.specs.Frame.{walkIn};
 ghost use Rattle.network_data.specs.Decode.{inner};
 ghost use Rattle.network_tables.specs.Cursor.{rowsIn, rowsOut, firstRow, nextRow, RowHere, RowsTo, routeOf, borderOf};
 

@@ -10,15 +10,17 @@ use native.Mathlib.Nat.{add-zero}
 use lib.ListN.{length, getD, take, drop, length-drop}
 use lib.Seq.{getD-drop, drop-drop}
 use lib.Dec.{leb, ltb}
-use borrow.Author.Tests.{leb-true, leb-false, le-leb, lt-leb}
+use borrow.Author.Tests.{leb-true, leb-false, le-leb, lt-leb, le-ltb}
 use Rattle.refusal.specs.Answer.{pick, Answer, given, refused}
 use Rattle.laws.proofs.Tests.{by-test}
-use Rattle.network_framing.specs.Frame.{subIn}
-use Rattle.network_framing.specs.Walk.{Piece, piece, Walk, clean, onto, step, walkIn}
+use Rattle.network_framing.specs.Tlvs.{Piece, piece, Walk, clean, onto}
+use Rattle.network_framing.specs.Frame.{subIn, walkIn, subAnswer}
+use Rattle.network_framing.specs.Place.{subPlace}
+use Rattle.network_framing.proofs.Agrees.{sub-agrees}
 use Rattle.network_walker.specs.Walker.{after, restOf, Tlv, Came, came, tlv, finds, comesBy, tlvAt, cameOf, tallied}
 use Rattle.network_framing.specs.declared.SubTlv.{SubTlv}
 use Rattle.network_framing.specs.declared.SubTlv.the-variants.{Item, Cut, End}
-use Rattle.network_framing.proofs.Walks.{walk-step, walk-end, inside, Inside, turn-end, turn-cut, turn-item, turn-inside}
+use Rattle.network_framing.proofs.Walks.{stepBy, walk-step, walk-end, inside, Inside, turn-end, turn-cut, turn-item, turn-inside}
 
 -- places counted from at, as places of the whole
 unfoldable pub fwd : ℕ → SubTlv → SubTlv
@@ -42,24 +44,27 @@ module _ (s : List ℕ) (at : ℕ) where
       (λ t. let h : b < length s - at = omega (arith, leb-false (length s) (at + b) t) in
       lt-leb (length s - at) b h ∙ sym t)
 
-  fwd-pick : (b1 b2 b3 : Bool) (t a n : ℕ) → fwd at (pick b1 End (pick b2 Cut (pick b3 (Item t a n) Cut))) ≡ pick b1 End (pick b2 Cut (pick b3 (Item t (at + a) n) Cut))
+  fwd-pick : (b1 b2 b3 b4 : Bool) (t a n : ℕ) → fwd at (pick b1 End (pick b2 Cut (pick b3 Cut (pick b4 (Item t a n) Cut)))) ≡ pick b1 End (pick b2 Cut (pick b3 Cut (pick b4 (Item t (at + a) n) Cut)))
   unfolding fwd
-  fwd-pick b1 b2 b3 t a n = by-test b1 (λ x. simp x) (λ x. by-test b2 (λ y. simp (x, y)) (λ y. by-test b3 (λ z. simp (x, y, z)) (λ z. simp (x, y, z))))
+  fwd-pick b1 b2 b3 b4 t a n =
+      by-test b1 (λ x. simp x) (λ x. by-test b2 (λ y. simp (x, y)) (λ y. by-test b3 (λ z. simp (x, y, z)) (λ z. by-test b4 (λ w. simp (x, y, z, w)) (λ w. simp (x, y, z, w)))))
 
-  sub-moved : (b : ℕ) → subIn s (at + b) (length s) ≡ fwd at (subIn (drop at s) b (length (drop at s)))
-  unfolding subIn
+  sub-moved : (b : ℕ) → subPlace s (at + b) (length s) ≡ fwd at (subPlace (drop at s) b (length (drop at s)))
+  unfolding subPlace
   sub-moved b =
       let k1 : length s - at - b ≡ length s - (at + b) = omega arith in
       let k2 : length s - at - (b + 2) ≡ length s - (at + b + 2) = omega arith in
       let k3 : at + (b + 1) ≡ at + b + 1 = omega arith in
       let k4 : at + (b + 2) ≡ at + b + 2 = omega arith in
-      sym (fwd-pick (leb (length (drop at s)) b) (ltb (length (drop at s) - b) 2) (leb (getD (drop at s) (b + 1) 0) (length (drop at s) - (b + 2))) (getD (drop at s) b 0 / 2) (b + 2) (getD (drop at s) (b + 1) 0)
-      ∙ simp (length-drop, getD-drop, same-end b, k1, k2, k3, k4))
+      let w1 = le-ltb (length s) (length s) (omega arith) in
+      let w2 = le-ltb (length s - at) (length s - at) (omega arith) in
+      sym (fwd-pick (leb (length (drop at s)) b) (ltb (length (drop at s)) (length (drop at s))) (ltb (length (drop at s) - b) 2) (leb (getD (drop at s) (b + 1) 0) (length (drop at s) - (b + 2))) (getD (drop at s) b 0 / 2) (b + 2) (getD (drop at s) (b + 1) 0)
+      ∙ simp (length-drop, getD-drop, same-end b, w1, w2, k1, k2, k3, k4))
 
   step-moved : (b : ℕ) (f : SubTlv) → Inside b (length (drop at s)) f
       → ((c : ℕ) → b + 2 ≤ c → walkIn s (at + c) (length s) ≡ moved at (walkIn (drop at s) c (length (drop at s))))
-      → step (fwd at f) (λ n. walkIn s n (length s)) ≡ moved at (step f (λ n. walkIn (drop at s) n (length (drop at s))))
-  unfolding step fwd movedItems
+      → stepBy (fwd at f) (λ n. walkIn s n (length s)) ≡ moved at (stepBy f (λ n. walkIn (drop at s) n (length (drop at s))))
+  unfolding stepBy fwd movedItems
   step-moved b End i h = refl
   step-moved b Cut i h = refl
   step-moved b (Item t a n) i h =
@@ -73,8 +78,8 @@ module _ (s : List ℕ) (at : ℕ) where
       let e : length (drop at s) ≤ b = simp length-drop (omega arith) in
       walk-end s (at + b) (length s) (omega arith) ∙ ap (moved at) (sym (walk-end (drop at s) b (length (drop at s)) e))
   walk-moved (suc k) b h =
-      walk-step s (at + b) (length s) ∙ ap (λ (f : SubTlv). step f (λ n. walkIn s n (length s))) (sub-moved b)
-      ∙ step-moved b (subIn (drop at s) b (length (drop at s))) (inside (drop at s) b (length (drop at s))) (λ c l. walk-moved k c (omega arith))
+      walk-step s (at + b) (length s) ∙ ap (λ (f : SubTlv). stepBy f (λ n. walkIn s n (length s))) (sub-moved b)
+      ∙ step-moved b (subPlace (drop at s) b (length (drop at s))) (inside (drop at s) b (length (drop at s))) (λ c l. walk-moved k c (omega arith))
       ∙ ap (moved at) (sym (walk-step (drop at s) b (length (drop at s))))
 
   pub rest-moved : walkIn s at (length s) ≡ moved at (walkIn (drop at s) 0 (length (drop at s)))
@@ -98,8 +103,8 @@ module _ (s : List ℕ) (at : ℕ) where
       ∙ ap (λ (l : List Tlv). came l (walkIn (drop at s) 0 (length (drop at s)) .stop)) (moved-tlvs (walkIn (drop at s) 0 (length (drop at s)) .items))
 
 -- ---- what the walker comes by
-comes-more : (k : ℕ) (s : List ℕ) → length s ≤ suc k → (f : SubTlv) → f ≡ subIn s 0 (length s)
-    → ((d : List ℕ) → length d ≤ k → comesBy k d ≡ cameOf d (walkIn d 0 (length d))) → finds s f (comesBy k (after s f)) ≡ cameOf s (walkIn s 0 (length s))
+comes-more : (k : ℕ) (s : List ℕ) → length s ≤ suc k → (f : SubTlv) → subAnswer f ≡ subIn s 0 (length s)
+    → ((d : List ℕ) → length d ≤ k → comesBy k d ≡ cameOf d (walkIn d 0 (length d))) → finds s (subAnswer f) (comesBy k (after s (subAnswer f))) ≡ cameOf s (walkIn s 0 (length s))
 unfolding finds after
 comes-more k s h End found go = ap (cameOf s) (sym (turn-end s 0 (length s) End found refl))
 comes-more k s h Cut found go = ap (cameOf s) (sym (turn-cut s 0 (length s) Cut found refl))
@@ -112,7 +117,9 @@ comes-more k s h (Item t a n) found go =
 comes-by : (k : ℕ) (s : List ℕ) → length s ≤ k → comesBy k s ≡ cameOf s (walkIn s 0 (length s))
 unfolding comesBy restOf
 comes-by zero s h = ap (cameOf s) (sym (walk-end s 0 (length s) h))
-comes-by (suc k) s h = comes-more k s h (subIn s 0 (length s)) refl (λ d l. comes-by k d l)
+comes-by (suc k) s h =
+    ap (λ (a : Answer Piece). finds s a (comesBy k (after s a))) (sym (sub-agrees s 0 (length s)))
+    ∙ comes-more k s h (subPlace s 0 (length s)) (sub-agrees s 0 (length s)) (λ d l. comes-by k d l)
 
 -- the walker's TLVs, taken until its end, are the definition's, and end as those do
 pub walker-items : (s : List ℕ) → comesBy (length s) s ≡ cameOf s (walkIn s 0 (length s))
@@ -124,12 +131,12 @@ nothing-left zero = refl
 nothing-left (suc k) = refl
 
 -- after a cut it comes by nothing more: the end, never a second cut
-pub walker-over : (s : List ℕ) → Cut ≡ subIn s 0 (length s) → (k : ℕ) → comesBy k (restOf s) ≡ came [] clean
+pub walker-over : (s : List ℕ) → refused 5 0 0 ≡ subIn s 0 (length s) → (k : ℕ) → comesBy k (restOf s) ≡ came [] clean
 unfolding restOf after
-walker-over s found k = ap (λ (x : SubTlv). comesBy k (after s x)) (sym found) ∙ nothing-left k
+walker-over s found k = ap (λ (x : Answer Piece). comesBy k (after s x)) (sym found) ∙ nothing-left k
 
 -- ---- a turn of the count, where n are counted and s is left
-module _ (s : List ℕ) (n : ℕ) (r : SubTlv) (found : r ≡ subIn s 0 (length s)) where
+module _ (s : List ℕ) (n : ℕ) (r : SubTlv) (found : subAnswer r ≡ subIn s 0 (length s)) where
   abbrev counting : ℕ → List ℕ → Answer ℕ
   counting m d = tallied (m + length (walkIn d 0 (length d) .items)) (walkIn d 0 (length d) .stop)
 
@@ -144,13 +151,13 @@ module _ (s : List ℕ) (n : ℕ) (r : SubTlv) (found : r ≡ subIn s 0 (length 
   pub count-item : (t a m : ℕ) → r ≡ Item t a m → (left : List ℕ) → left ≡ restOf s → counting (n + 1) left ≡ counting n s
   unfolding restOf after
   count-item t a m e left is =
-      let l : left ≡ drop (a + m) s = is ∙ ap (after s) (sym found ∙ e) in
+      let l : left ≡ drop (a + m) s = is ∙ ap (after s) (sym found ∙ ap subAnswer e) in
       let w = turn-item s 0 (length s) r found t a m e ∙ ap (onto (piece t a m)) (rest-moved s (a + m)) in
       let k : n + 1 + length (walkIn (drop (a + m) s) 0 (length (drop (a + m) s)) .items) ≡ n + suc (length (walkIn (drop (a + m) s) 0 (length (drop (a + m) s)) .items)) = omega arith in
       rw (l, w) (ap (λ (x : ℕ). tallied x (walkIn (drop (a + m) s) 0 (length (drop (a + m) s)) .stop)) (k ∙ ap (λ (x : ℕ). n + suc x) (sym (moved-length s (a + m) _))))
 
-pub count-less : (s : List ℕ) (r : SubTlv) → r ≡ subIn s 0 (length s) → (t a m : ℕ) → r ≡ Item t a m → (left : List ℕ) → left ≡ restOf s → length left < length s
+pub count-less : (s : List ℕ) (r : SubTlv) → subAnswer r ≡ subIn s 0 (length s) → (t a m : ℕ) → r ≡ Item t a m → (left : List ℕ) → left ≡ restOf s → length left < length s
 unfolding restOf after
 count-less s r found t a m e left is =
-    let l : length left ≡ length s - (a + m) = ap length (is ∙ ap (after s) (sym found ∙ e)) ∙ length-drop (a + m) s in
+    let l : length left ≡ length s - (a + m) = ap length (is ∙ ap (after s) (sym found ∙ ap subAnswer e)) ∙ length-drop (a + m) s in
     omega (arith, turn-inside s 0 (length s) r found t a m e)

@@ -5,17 +5,15 @@ use mathlib.Core.List.{List, [], _∷_, map}
 use lib.ListN.{length, take, drop}
 use lib.Dec.{ltb}
 use Rattle.refusal.specs.Sizes.{mostBytes}
-use Rattle.refusal.specs.Answer.{pick, Answer, given, refused}
-use Rattle.network_framing.specs.Frame.{subIn}
-use Rattle.network_framing.specs.Walk.{Piece, Stop, clean, short, Walk, walkIn}
-use Rattle.network_framing.specs.declared.SubTlv.{SubTlv}
-use Rattle.network_framing.specs.declared.SubTlv.the-variants.{Item, Cut, End}
+use Rattle.refusal.specs.Answer.{pick, Answer, given, absent, refused}
+use Rattle.network_framing.specs.Tlvs.{Piece, Stop, clean, short, Walk}
+use Rattle.network_framing.specs.Frame.{subIn, walkIn}
 
 -- what follows a TLV that stands in s
-unfoldable pub after : List ℕ → SubTlv → List ℕ
-after s End = []
-after s Cut = []
-after s (Item t a n) = drop (a + n) s
+unfoldable pub after : List ℕ → Answer Piece → List ℕ
+after s (given e) = drop (e .start + e .len) s
+after s absent = []
+after s (refused n p i) = []
 
 -- what follows the first TLV of s: "empty after a cut"
 unfoldable pub restOf : List ℕ → List ℕ
@@ -38,10 +36,10 @@ abbrev pub came : List Tlv → Stop → Came
 came l x = record { tlvs = l; stop = x }
 
 -- what the walker finds in s, and then what it comes by with what is left
-unfoldable pub finds : List ℕ → SubTlv → Came → Came
-finds s End next = came [] clean
-finds s Cut next = came [] short
-finds s (Item t a n) next = came (tlv t (take n (drop a s)) ∷ next .tlvs) (next .stop)
+unfoldable pub finds : List ℕ → Answer Piece → Came → Came
+finds s absent next = came [] clean
+finds s (refused n p i) next = came [] short
+finds s (given e) next = came (tlv (e .ty) (take (e .len) (drop (e .start) s)) ∷ next .tlvs) (next .stop)
 
 -- what it comes by with the bytes s still to be read, in at most so many steps
 unfoldable pub comesBy : (fuel : ℕ) → List ℕ → Came

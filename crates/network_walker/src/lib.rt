@@ -10,7 +10,7 @@ use refusal::Refusal;
 use walker::count_all;
 ghost use mathlib.Core.Path.{_≡_};
 ghost use lib.ListN.{length};
-ghost use Rattle.network_framing.specs.Frame.{subIn};
+ghost use Rattle.network_framing.specs.Frame.{subIn, subAnswer};
 ghost use Rattle.network_walker.specs.Walker.{restOf, tlvCount};
 ghost use Rattle.network_walker.specs.Answers.{tlvCountAnswer};
 
@@ -34,7 +34,7 @@ impl<'a> NetworkDataTlvIter<'a> {
 
     // The next TLV of the bytes still to be read, or that it is cut short, or that there is none.
     pub fn item(self) -> SubTlv
-        ensures { λ r. ⌜ r ≡ subIn (now (self .entry .bytes)) 0 (length (now (self .entry .bytes))) ⌝ }
+        ensures { λ r. ⌜ subAnswer r ≡ subIn (now (self .entry .bytes)) 0 (length (now (self .entry .bytes))) ⌝ }
     {
         sub_at(self.bytes, 0)
     }

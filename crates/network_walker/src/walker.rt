@@ -6,14 +6,13 @@ use refusal::Fault;
 use refusal::Refusal;
 ghost use mathlib.Core.Path.{_≡_};
 ghost use lib.ListN.{length};
-ghost use Rattle.network_framing.specs.Frame.{subIn};
-ghost use Rattle.network_framing.specs.Walk.{walkIn};
+ghost use Rattle.network_framing.specs.Frame.{subIn, walkIn, subAnswer};
 ghost use Rattle.network_walker.specs.Walker.{restOf, tlvsOf};
 ghost use Rattle.network_walker.specs.Answers.{tlvCountAnswer};
 
 // What the walker finds first.
 pub(crate) fn first_tlv(bytes: &[u8]) -> SubTlv
-    ensures { λ r. ⌜ r ≡ subIn (now (bytes .entry)) 0 (length (now (bytes .entry))) ⌝ }
+    ensures { λ r. ⌜ subAnswer r ≡ subIn (now (bytes .entry)) 0 (length (now (bytes .entry))) ⌝ }
 {
     NetworkDataTlvIter::new(bytes).item()
 }

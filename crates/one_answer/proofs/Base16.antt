@@ -1,15 +1,10 @@
--- One possible answer for each public call of `base16`: each line is the call's own promise.
+-- One possible answer for each public call of `base16`.
 -- Assumes nothing.
-use mathlib.Core.List.{List}
-use mathlib.Core.Path.{_≡_}
-use Prim.Native.Nat.{ℕ}
-use Rattle.base16.specs.Base16.{decoded}
 use Rattle.refusal.proofs.Papers.{written-tells}
-use Rattle.refusal.specs.Output.{emit, output, writtenAnswer}
-use Rattle.refusal.specs.declared.Written.{Written}
-use Rattle.one_answer.specs.One.{Leaves}
-use Rattle.one_answer.proofs.General.{leaves}
+use Rattle.refusal.specs.Output.{writtenAnswer}
+use Rattle.one_answer.proofs.General.{both, leaves}
+use Rattle.one_answer.specs.One.{One}
 
 -- base16::decode
-pub decode : (text : List ℕ) (out : List ℕ) → Leaves (λ (r : Written) (left : List ℕ). output (writtenAnswer r) left ≡ emit (decoded text) out)
-decode text out = leaves writtenAnswer written-tells _
+pub decode : One Rattle.base16.proofs.decode.ended (λ M. Rattle.base16.proofs.decode.clauses)
+decode x r q left over = both (x .𝓤) _ _ _ (λ e f. let same = leaves writtenAnswer written-tells _ r q _ _ e f in (same .0, λ i. (tt, (same .1 i, tt))))

@@ -1,24 +1,18 @@
--- One possible answer for each public call of `changes`: each line is the call's own promise.
+-- One possible answer for each public call of `changes`.
 -- Assumes nothing.
-use mathlib.Core.List.{List}
-use mathlib.Core.Path.{_≡_}
-use Prim.Native.Nat.{ℕ}
-use Rattle.change_folds.specs.Fold.{folded, foldedTwo}
-use Rattle.change_folds.specs.Run.{ran}
 use Rattle.refusal.proofs.Papers.{written-tells}
-use Rattle.refusal.specs.Output.{emit, output, writtenAnswer}
-use Rattle.refusal.specs.declared.Written.{Written}
-use Rattle.one_answer.specs.One.{Leaves}
-use Rattle.one_answer.proofs.General.{leaves}
+use Rattle.refusal.specs.Output.{writtenAnswer}
+use Rattle.one_answer.proofs.General.{both, leaves}
+use Rattle.one_answer.specs.One.{One}
 
 -- changes::run
-pub run : (dataset : List ℕ) (list : List ℕ) (out : List ℕ) → Leaves (λ (r : Written) (left : List ℕ). output (writtenAnswer r) left ≡ emit (ran dataset list) out)
-run dataset list out = leaves writtenAnswer written-tells _
+pub run : One Rattle.changes.proofs.run.ended (λ M. Rattle.changes.proofs.run.clauses)
+run x r q left over = both (x .𝓤) _ _ _ (λ e f. let same = leaves writtenAnswer written-tells _ r q _ _ e f in (same .0, λ i. (tt, (tt, (same .1 i, tt)))))
 
 -- changes::fold_two
-pub fold-two : (first : List ℕ) (second : List ℕ) (out : List ℕ) → Leaves (λ (r : Written) (left : List ℕ). output (writtenAnswer r) left ≡ emit (foldedTwo first second) out)
-fold-two first second out = leaves writtenAnswer written-tells _
+pub fold-two : One Rattle.changes.proofs.fold_two.ended (λ M. Rattle.changes.proofs.fold_two.clauses)
+fold-two x r q left over = both (x .𝓤) _ _ _ (λ e f. let same = leaves writtenAnswer written-tells _ r q _ _ e f in (same .0, λ i. (tt, (tt, (same .1 i, tt)))))
 
 -- changes::fold
-pub fold : (list : List ℕ) (out : List ℕ) → Leaves (λ (r : Written) (left : List ℕ). output (writtenAnswer r) left ≡ emit (folded list) out)
-fold list out = leaves writtenAnswer written-tells _
+pub fold : One Rattle.changes.proofs.fold.ended (λ M. Rattle.changes.proofs.fold.clauses)
+fold x r q left over = both (x .𝓤) _ _ _ (λ e f. let same = leaves writtenAnswer written-tells _ r q _ _ e f in (same .0, λ i. (tt, (same .1 i, tt))))

@@ -1,100 +1,80 @@
--- One possible answer for each public call of `dataset`: each line is the call's own promise.
+-- One possible answer for each public call of `dataset`.
 -- Assumes nothing.
-use mathlib.Core.List.{List}
-use mathlib.Core.Path.{_≡_}
-use Prim.Native.Nat.{ℕ}
-use Rattle.dataset.specs.Queries.{query}
-use Rattle.dataset_parts.specs.Parts.{maskCount, maskEntry, nameEntry}
+use denote.Ref.{now}
+use mathlib.Core.Path.{_∙_, refl, sym}
 use Rattle.channel_masks.proofs.Papers.{mask-tells}
-use Rattle.channel_masks.specs.Mask.{maskAnswer}
-use Rattle.channel_masks.specs.declared.ReadMask.{ReadMask}
 use Rattle.plain_values.proofs.Papers.{copy16-tells, copy8-tells}
-use Rattle.plain_values.specs.Plain.{copied, copy16, copy8}
-use Rattle.plain_values.specs.declared.Array16.{Array16}
-use Rattle.plain_values.specs.declared.Array8.{Array8}
-use Rattle.refusal.specs.Answer.{onGiven}
 use Rattle.timestamps.proofs.Papers.{timestamp-tells}
-use Rattle.timestamps.specs.Timestamps.{timestampAnswer, timestampOf}
-use Rattle.timestamps.specs.declared.ReadTimestamp.{ReadTimestamp}
 use Rattle.tlv_last.proofs.Papers.{found-tells}
-use Rattle.tlv_last.specs.Answers.{foundAnswer}
-use Rattle.tlv_last.specs.Last.{lastSpot, lastValue, spot, valueOr}
-use Rattle.tlv_last.specs.declared.Found.{Found}
 use Rattle.values.proofs.Papers.{channel-tells, policy-tells}
-use Rattle.values.specs.Typed.{channelAnswer, channelOf, policyAnswer, policyOf}
-use Rattle.values.specs.declared.ReadChannel.{ReadChannel}
-use Rattle.values.specs.declared.ReadPolicy.{ReadPolicy}
 use Rattle.wire.proofs.Papers.{read16-tells, read32-tells}
-use Rattle.wire.specs.Be.{answer16, answer32, be}
-use Rattle.wire.specs.declared.Read16.{Read16}
-use Rattle.wire.specs.declared.Read32.{Read32}
-use Rattle.one_answer.proofs.General.{one, one-itself}
-use Rattle.one_answer.specs.One.{One}
+use Rattle.one_answer.proofs.General.{both}
+use Rattle.one_answer.specs.One.{One, OneBy}
 
 -- dataset_raw::raw
-pub raw : (s : List ℕ) (ty : ℕ) → One (λ (r : Found). foundAnswer r ≡ lastSpot ty 0 s)
-raw s ty = one foundAnswer found-tells _
+pub raw : One Rattle.dataset_raw.proofs.raw.ended (λ M. Rattle.dataset_raw.proofs.raw.clauses)
+raw x r q left over = both (x .𝓤) _ _ _ (λ e f. (found-tells r q (e ∙ sym f), refl))
 
 -- dataset_raw::raw_value
-pub raw-value : (s : List ℕ) (ty : ℕ) → One (λ (r : List ℕ). r ≡ lastValue ty s)
-raw-value s ty = one-itself _
+pub raw-value : OneBy Rattle.dataset_raw.proofs.raw_value.ended (λ κs r. now r) (λ M. Rattle.dataset_raw.proofs.raw_value.clauses)
+raw-value x r q left over = both (x .𝓤) _ _ _ (λ e f. (e ∙ sym f, refl))
 
 -- dataset_raw::pskc
-pub pskc : (s : List ℕ) → One (λ (r : Found). foundAnswer r ≡ lastSpot 4 0 s)
-pskc s = one foundAnswer found-tells _
+pub pskc : One Rattle.dataset_raw.proofs.pskc.ended (λ M. Rattle.dataset_raw.proofs.pskc.clauses)
+pskc x r q left over = both (x .𝓤) _ _ _ (λ e f. (found-tells r q (e ∙ sym f), refl))
 
 -- dataset_raw::pskc_value
-pub pskc-value : (s : List ℕ) → One (λ (r : List ℕ). r ≡ lastValue 4 s)
-pskc-value s = one-itself _
+pub pskc-value : OneBy Rattle.dataset_raw.proofs.pskc_value.ended (λ κs r. now r) (λ M. Rattle.dataset_raw.proofs.pskc_value.clauses)
+pskc-value x r q left over = both (x .𝓤) _ _ _ (λ e f. (e ∙ sym f, refl))
 
 -- dataset_parts::network_name
-pub network-name : (s : List ℕ) → One (λ (r : Found). foundAnswer r ≡ onGiven spot (nameEntry s))
-network-name s = one foundAnswer found-tells _
+pub network-name : One Rattle.dataset_parts.proofs.network_name.ended (λ M. Rattle.dataset_parts.proofs.network_name.clauses)
+network-name x r q left over = both (x .𝓤) _ _ _ (λ e f. (found-tells r q (e ∙ sym f), refl))
 
 -- dataset_parts::network_name_value
-pub network-name-value : (s : List ℕ) → One (λ (r : List ℕ). r ≡ valueOr (nameEntry s))
-network-name-value s = one-itself _
+pub network-name-value : OneBy Rattle.dataset_parts.proofs.network_name_value.ended (λ κs r. now r) (λ M. Rattle.dataset_parts.proofs.network_name_value.clauses)
+network-name-value x r q left over = both (x .𝓤) _ _ _ (λ e f. (e ∙ sym f, refl))
 
 -- dataset::channel
-pub channel : (s : List ℕ) → One (λ (r : ReadChannel). channelAnswer r ≡ query 0 channelOf s)
-channel s = one channelAnswer channel-tells _
+pub channel : One Rattle.dataset.proofs.channel.ended (λ M. Rattle.dataset.proofs.channel.clauses)
+channel x r q left over = both (x .𝓤) _ _ _ (λ e f. (channel-tells r q (e ∙ sym f), refl))
 
 -- dataset::pan_id
-pub pan-id : (s : List ℕ) → One (λ (r : Read16). answer16 r ≡ query 1 be s)
-pan-id s = one answer16 read16-tells _
+pub pan-id : One Rattle.dataset.proofs.pan_id.ended (λ M. Rattle.dataset.proofs.pan_id.clauses)
+pan-id x r q left over = both (x .𝓤) _ _ _ (λ e f. (read16-tells r q (e ∙ sym f), refl))
 
 -- dataset::delay_timer
-pub delay-timer : (s : List ℕ) → One (λ (r : Read32). answer32 r ≡ query 52 be s)
-delay-timer s = one answer32 read32-tells _
+pub delay-timer : One Rattle.dataset.proofs.delay_timer.ended (λ M. Rattle.dataset.proofs.delay_timer.clauses)
+delay-timer x r q left over = both (x .𝓤) _ _ _ (λ e f. (read32-tells r q (e ∙ sym f), refl))
 
 -- dataset::active_timestamp
-pub active-timestamp : (s : List ℕ) → One (λ (r : ReadTimestamp). timestampAnswer r ≡ query 14 timestampOf s)
-active-timestamp s = one timestampAnswer timestamp-tells _
+pub active-timestamp : One Rattle.dataset.proofs.active_timestamp.ended (λ M. Rattle.dataset.proofs.active_timestamp.clauses)
+active-timestamp x r q left over = both (x .𝓤) _ _ _ (λ e f. (timestamp-tells r q (e ∙ sym f), refl))
 
 -- dataset::pending_timestamp
-pub pending-timestamp : (s : List ℕ) → One (λ (r : ReadTimestamp). timestampAnswer r ≡ query 51 timestampOf s)
-pending-timestamp s = one timestampAnswer timestamp-tells _
+pub pending-timestamp : One Rattle.dataset.proofs.pending_timestamp.ended (λ M. Rattle.dataset.proofs.pending_timestamp.clauses)
+pending-timestamp x r q left over = both (x .𝓤) _ _ _ (λ e f. (timestamp-tells r q (e ∙ sym f), refl))
 
 -- dataset::security_policy
-pub security-policy : (s : List ℕ) → One (λ (r : ReadPolicy). policyAnswer r ≡ query 12 policyOf s)
-security-policy s = one policyAnswer policy-tells _
+pub security-policy : One Rattle.dataset.proofs.security_policy.ended (λ M. Rattle.dataset.proofs.security_policy.clauses)
+security-policy x r q left over = both (x .𝓤) _ _ _ (λ e f. (policy-tells r q (e ∙ sym f), refl))
 
 -- dataset::extended_pan_id
-pub extended-pan-id : (s : List ℕ) → One (λ (r : Array8). copy8 r ≡ copied 8 (query 2 (λ (v : List ℕ). v) s))
-extended-pan-id s = one copy8 copy8-tells _
+pub extended-pan-id : One Rattle.dataset.proofs.extended_pan_id.ended (λ M. Rattle.dataset.proofs.extended_pan_id.clauses)
+extended-pan-id x r q left over = both (x .𝓤) _ _ _ (λ e f. (copy8-tells r q (e ∙ sym f), refl))
 
 -- dataset::mesh_local_prefix
-pub mesh-local-prefix : (s : List ℕ) → One (λ (r : Array8). copy8 r ≡ copied 8 (query 7 (λ (v : List ℕ). v) s))
-mesh-local-prefix s = one copy8 copy8-tells _
+pub mesh-local-prefix : One Rattle.dataset.proofs.mesh_local_prefix.ended (λ M. Rattle.dataset.proofs.mesh_local_prefix.clauses)
+mesh-local-prefix x r q left over = both (x .𝓤) _ _ _ (λ e f. (copy8-tells r q (e ∙ sym f), refl))
 
 -- dataset::network_key
-pub network-key : (s : List ℕ) → One (λ (r : Array16). copy16 r ≡ copied 16 (query 5 (λ (v : List ℕ). v) s))
-network-key s = one copy16 copy16-tells _
+pub network-key : One Rattle.dataset.proofs.network_key.ended (λ M. Rattle.dataset.proofs.network_key.clauses)
+network-key x r q left over = both (x .𝓤) _ _ _ (λ e f. (copy16-tells r q (e ∙ sym f), refl))
 
 -- dataset_parts::channel_mask
-pub channel-mask : (s : List ℕ) → One (λ (r : ReadMask). maskAnswer r ≡ maskCount s)
-channel-mask s = one maskAnswer mask-tells _
+pub channel-mask : One Rattle.dataset_parts.proofs.channel_mask.ended (λ M. Rattle.dataset_parts.proofs.channel_mask.clauses)
+channel-mask x r q left over = both (x .𝓤) _ _ _ (λ e f. (mask-tells r q (e ∙ sym f), refl))
 
 -- dataset_parts::channel_mask_value
-pub channel-mask-value : (s : List ℕ) → One (λ (r : List ℕ). r ≡ valueOr (maskEntry s))
-channel-mask-value s = one-itself _
+pub channel-mask-value : OneBy Rattle.dataset_parts.proofs.channel_mask_value.ended (λ κs r. now r) (λ M. Rattle.dataset_parts.proofs.channel_mask_value.clauses)
+channel-mask-value x r q left over = both (x .𝓤) _ _ _ (λ e f. (e ∙ sym f, refl))

@@ -1,33 +1,26 @@
--- One possible answer for each public call of `dataset_edits` and `dataset_hex`: each line is the call's own promise.
+-- One possible answer for each public call of `dataset_edits` and `dataset_hex`.
 -- Assumes nothing.
-use mathlib.Core.List.{List}
-use mathlib.Core.Path.{_≡_}
-use Prim.Native.Nat.{ℕ}
-use Rattle.dataset_hex.specs.Hex.{fromHex, hexOf}
 use Rattle.refusal.proofs.Papers.{written-tells}
-use Rattle.refusal.specs.Output.{emit, output, writtenAnswer}
-use Rattle.refusal.specs.declared.Written.{Written}
-use Rattle.tlv_rewriting.specs.Rewrite.{rewritten, withSet}
-use Rattle.tlv_rewriting.specs.declared.Choice.the-variants.{All, Without}
-use Rattle.one_answer.proofs.General.{leaves}
-use Rattle.one_answer.specs.One.{Leaves}
+use Rattle.refusal.specs.Output.{writtenAnswer}
+use Rattle.one_answer.proofs.General.{both, leaves}
+use Rattle.one_answer.specs.One.{One}
 
 -- dataset_edits::set_raw
-pub set-raw : (s : List ℕ) (ty : ℕ) (value : List ℕ) (out : List ℕ) → Leaves (λ (r : Written) (left : List ℕ). output (writtenAnswer r) left ≡ emit (withSet ty value s) out)
-set-raw s ty value out = leaves writtenAnswer written-tells _
+pub set-raw : One Rattle.dataset_edits.proofs.set_raw.ended (λ M. Rattle.dataset_edits.proofs.set_raw.clauses)
+set-raw x r q left over = both (x .𝓤) _ _ _ (λ e f. let same = leaves writtenAnswer written-tells _ r q _ _ e f in (same .0, λ i. (tt, (tt, (tt, (same .1 i, tt))))))
 
 -- dataset_edits::remove_all
-pub remove-all : (s : List ℕ) (ty : ℕ) (out : List ℕ) → Leaves (λ (r : Written) (left : List ℕ). output (writtenAnswer r) left ≡ emit (rewritten (Without ty) s) out)
-remove-all s ty out = leaves writtenAnswer written-tells _
+pub remove-all : One Rattle.dataset_edits.proofs.remove_all.ended (λ M. Rattle.dataset_edits.proofs.remove_all.clauses)
+remove-all x r q left over = both (x .𝓤) _ _ _ (λ e f. let same = leaves writtenAnswer written-tells _ r q _ _ e f in (same .0, λ i. (tt, (tt, (same .1 i, tt)))))
 
 -- dataset_edits::to_bytes
-pub to-bytes : (s : List ℕ) (out : List ℕ) → Leaves (λ (r : Written) (left : List ℕ). output (writtenAnswer r) left ≡ emit (rewritten All s) out)
-to-bytes s out = leaves writtenAnswer written-tells _
+pub to-bytes : One Rattle.dataset_edits.proofs.to_bytes.ended (λ M. Rattle.dataset_edits.proofs.to_bytes.clauses)
+to-bytes x r q left over = both (x .𝓤) _ _ _ (λ e f. let same = leaves writtenAnswer written-tells _ r q _ _ e f in (same .0, λ i. (tt, (same .1 i, tt))))
 
 -- dataset_hex::to_hex
-pub to-hex : (s : List ℕ) (out : List ℕ) → Leaves (λ (r : Written) (left : List ℕ). output (writtenAnswer r) left ≡ emit (hexOf s) out)
-to-hex s out = leaves writtenAnswer written-tells _
+pub to-hex : One Rattle.dataset_hex.proofs.to_hex.ended (λ M. Rattle.dataset_hex.proofs.to_hex.clauses)
+to-hex x r q left over = both (x .𝓤) _ _ _ (λ e f. let same = leaves writtenAnswer written-tells _ r q _ _ e f in (same .0, λ i. (tt, (same .1 i, tt))))
 
 -- dataset_hex::from_hex
-pub from-hex : (text : List ℕ) (out : List ℕ) → Leaves (λ (r : Written) (left : List ℕ). output (writtenAnswer r) left ≡ emit (fromHex text) out)
-from-hex text out = leaves writtenAnswer written-tells _
+pub from-hex : One Rattle.dataset_hex.proofs.from_hex.ended (λ M. Rattle.dataset_hex.proofs.from_hex.clauses)
+from-hex x r q left over = both (x .𝓤) _ _ _ (λ e f. let same = leaves writtenAnswer written-tells _ r q _ _ e f in (same .0, λ i. (tt, (same .1 i, tt))))

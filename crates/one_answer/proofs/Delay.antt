@@ -1,20 +1,14 @@
--- One possible answer for each public call of `delay`: each line is the call's own promise.
+-- One possible answer for each public call of `delay`.
 -- Assumes nothing.
-use mathlib.Core.List.{List}
-use mathlib.Core.Path.{_≡_}
-use Prim.Native.Nat.{ℕ}
+use mathlib.Core.Path.{_∙_, refl, sym}
 use Rattle.delay.proofs.Papers.{due-tells, working-tells}
-use Rattle.delay.specs.Answers.{dueAnswer, workingAnswer}
-use Rattle.delay.specs.Delay.{dueSecond, workingDelay}
-use Rattle.delay.specs.declared.DueSecond.{DueSecond}
-use Rattle.delay.specs.declared.WorkingDelay.{WorkingDelay}
+use Rattle.one_answer.proofs.General.{both}
 use Rattle.one_answer.specs.One.{One}
-use Rattle.one_answer.proofs.General.{one}
 
 -- delay::working_delay
-pub working-delay : (dataset : List ℕ) → One (λ (r : WorkingDelay). workingAnswer r ≡ workingDelay dataset)
-working-delay dataset = one workingAnswer working-tells _
+pub working-delay : One Rattle.delay.proofs.working_delay.ended (λ M. Rattle.delay.proofs.working_delay.clauses)
+working-delay x r q left over = both (x .𝓤) _ _ _ (λ e f. (working-tells r q (e ∙ sym f), refl))
 
 -- delay::due_second
-pub due-second : (dataset : List ℕ) (clock : ℕ) → One (λ (r : DueSecond). dueAnswer r ≡ dueSecond dataset clock)
-due-second dataset clock = one dueAnswer due-tells _
+pub due-second : One Rattle.delay.proofs.due_second.ended (λ M. Rattle.delay.proofs.due_second.clauses)
+due-second x r q left over = both (x .𝓤) _ _ _ (λ e f. (due-tells r q (e ∙ sym f), refl))

@@ -1,15 +1,10 @@
--- One possible answer for each public call of `diag`: each line is the call's own promise.
+-- One possible answer for each public call of `diag`.
 -- Assumes nothing.
-use mathlib.Core.List.{List}
-use mathlib.Core.Path.{_≡_}
-use Prim.Native.Nat.{ℕ}
+use mathlib.Core.Path.{_∙_, refl, sym}
 use Rattle.diag.proofs.Papers.{decoded-tells}
-use Rattle.diag.specs.Answers.{decodedAnswer}
-use Rattle.diag.specs.Diag.{decode}
-use Rattle.diag.specs.declared.Decoded.{Decoded}
+use Rattle.one_answer.proofs.General.{both}
 use Rattle.one_answer.specs.One.{One}
-use Rattle.one_answer.proofs.General.{one}
 
 -- diag::NetDiagData::decode
-pub net-diag-data-decode : (payload : List ℕ) → One (λ (r : Decoded). decodedAnswer payload r ≡ decode payload)
-net-diag-data-decode payload = one (decodedAnswer payload) (decoded-tells payload) _
+pub net-diag-data-decode : One Rattle.diag.proofs.NetDiagData.decode.ended (λ M. Rattle.diag.proofs.NetDiagData.decode.clauses)
+net-diag-data-decode x r q left over = both (x .𝓤) _ _ _ (λ e f. (decoded-tells (x .passed .0 .now) r q (e ∙ sym f), refl))

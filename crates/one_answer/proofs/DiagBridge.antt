@@ -1,16 +1,10 @@
--- One possible answer for the public call of `diag_bridge`, the tables by value among it: its own promise.
+-- One possible answer for the public call of `diag_bridge`, the tables by value among it.
 -- Assumes nothing.
-use mathlib.Core.List.{List}
-use mathlib.Core.Path.{_≡_}
-use Prim.Native.Nat.{ℕ}
+use mathlib.Core.Path.{_∙_, refl, sym}
 use Rattle.diag_bridge.proofs.Papers.{left-tells}
-use Rattle.diag_bridge.specs.Parts.{leftWhole, outcomeOf}
-use Rattle.diag_bridge.specs.declared.Left.{Left}
-use Rattle.network_bridge.specs.Parts.{lentOf}
-use Rattle.network_bridge.specs.declared.Tables.{Tables}
+use Rattle.one_answer.proofs.General.{both}
 use Rattle.one_answer.specs.One.{One}
-use Rattle.one_answer.proofs.General.{one}
 
 -- diag_bridge::decode
-pub decode : (payload : List ℕ) (tables : Tables) (np nh nb : ℕ) → One (λ (r : Left). outcomeOf payload r ≡ leftWhole payload (tables .prefixes) (lentOf np) (tables .«has_route») (lentOf nh) (tables .«border_routers») (lentOf nb))
-decode payload tables np nh nb = one (outcomeOf payload) (left-tells payload) _
+pub decode : One Rattle.diag_bridge.proofs.decode.ended (λ M. Rattle.diag_bridge.proofs.decode.clauses)
+decode x r q left over = both (x .𝓤) _ _ _ (λ e f. (left-tells (x .passed .0 .now) r q (e ∙ sym f), refl))

@@ -1,37 +1,27 @@
--- One possible answer for each public call of `diag_rows`: each line is the call's own promise.
+-- One possible answer for each public call of `diag_rows`.
 -- Assumes nothing.
-use mathlib.Core.List.{List}
-use mathlib.Core.Path.{_≡_}
-use Prim.Native.Nat.{_%_, ℕ}
+use denote.Ref.{now}
+use mathlib.Core.Path.{_∙_, refl, sym}
 use Rattle.diag_rows.proofs.Papers.{address-list-tells, child-tells, part-tells}
-use Rattle.diag_rows.specs.Answers.{addressListAnswer, childAnswer, partAnswer}
-use Rattle.diag_rules.specs.Rule.{valueOf}
-use Rattle.refusal.specs.Numbered.{nth}
-use Rattle.diag_rows.specs.Rows.{addressListOf, addressParts, addresses, childRows, orEmpty, timeoutSeconds}
-use Rattle.diag_rows.specs.declared.ChildTableEntry.{ChildTableEntry}
-use Rattle.diag_rows.specs.declared.ReadAddressList.{ReadAddressList}
-use Rattle.diag_rows.specs.declared.ReadChild.{ReadChild}
-use Rattle.diag_rows.specs.declared.ReadPart.{ReadPart}
-use Rattle.refusal.specs.Answer.{onGiven, thenDo}
-use Rattle.one_answer.specs.One.{One}
-use Rattle.one_answer.proofs.General.{one, one-itself}
+use Rattle.one_answer.proofs.General.{both}
+use Rattle.one_answer.specs.One.{One, OneBy}
 
 -- diag_rows::decode_child_ipv6_addresses
-pub decode-child-ipv6-addresses : (value : List ℕ) (place : ℕ) → One (λ (r : ReadAddressList). addressListAnswer r ≡ onGiven addressListOf (valueOf 30 place value))
-decode-child-ipv6-addresses value place = one addressListAnswer address-list-tells _
+pub decode-child-ipv6-addresses : One Rattle.diag_rows.proofs.decode_child_ipv6_addresses.ended (λ M. Rattle.diag_rows.proofs.decode_child_ipv6_addresses.clauses)
+decode-child-ipv6-addresses x r q left over = both (x .𝓤) _ _ _ (λ e f. (address-list-tells r q (e ∙ sym f), refl))
 
 -- diag_rows::child_row
-pub child-row : (value : List ℕ) (k : ℕ) → One (λ (r : ReadChild). childAnswer r ≡ thenDo (valueOf 16 0 value) (λ (v : List ℕ). nth (childRows v) k))
-child-row value k = one childAnswer child-tells _
+pub child-row : One Rattle.diag_rows.proofs.child_row.ended (λ M. Rattle.diag_rows.proofs.child_row.clauses)
+child-row x r q left over = both (x .𝓤) _ _ _ (λ e f. (child-tells r q (e ∙ sym f), refl))
 
 -- diag_rows::ChildTableEntry::timeout_seconds
-pub child-table-entry-timeout-seconds : (self : ChildTableEntry) → One (λ (r : ℕ). r ≡ timeoutSeconds (self .«timeout_exponent» % 32))
-child-table-entry-timeout-seconds self = one-itself _
+pub child-table-entry-timeout-seconds : One Rattle.diag_rows.proofs.ChildTableEntry.timeout_seconds.ended (λ M. Rattle.diag_rows.proofs.ChildTableEntry.timeout_seconds.clauses)
+child-table-entry-timeout-seconds x r q left over = both (x .𝓤) _ _ _ (λ e f. (e ∙ sym f, refl))
 
 -- diag_rows::address_at
-pub address-at : (value : List ℕ) (k : ℕ) → One (λ (r : ReadPart). partAnswer r ≡ thenDo (valueOf 8 0 value) (λ (v : List ℕ). nth (addressParts v) k))
-address-at value k = one partAnswer part-tells _
+pub address-at : One Rattle.diag_rows.proofs.address_at.ended (λ M. Rattle.diag_rows.proofs.address_at.clauses)
+address-at x r q left over = both (x .𝓤) _ _ _ (λ e f. (part-tells r q (e ∙ sym f), refl))
 
 -- diag_rows::address
-pub address : (value : List ℕ) (k : ℕ) → One (λ (r : List ℕ). r ≡ orEmpty (thenDo (valueOf 8 0 value) (λ (v : List ℕ). nth (addresses v) k)))
-address value k = one-itself _
+pub address : OneBy Rattle.diag_rows.proofs.address.ended (λ κs r. now r) (λ M. Rattle.diag_rows.proofs.address.clauses)
+address x r q left over = both (x .𝓤) _ _ _ (λ e f. (e ∙ sym f, refl))

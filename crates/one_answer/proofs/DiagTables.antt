@@ -1,18 +1,10 @@
--- One possible answer for the public call of `diag_tables`: its own promise.
+-- One possible answer for the public call of `diag_tables`.
 -- Assumes nothing.
-use mathlib.Core.List.{List}
-use mathlib.Core.Path.{_≡_, sym, _∙_}
-use Prim.Native.Nat.{ℕ}
-use Rattle.diag.specs.Answers.{decodedAnswer}
-use Rattle.diag.specs.declared.Decoded.{Decoded}
+use mathlib.Core.Path.{_∙_, sym}
 use Rattle.diag_tables.proofs.Papers.{outcome-tells}
-use Rattle.diag_tables.specs.Tables.{decoded, outcome}
-use Rattle.network_data.specs.declared.BorderRouterEntry.{BorderRouterEntry}
-use Rattle.network_data.specs.declared.HasRouteEntry.{HasRouteEntry}
-use Rattle.network_data.specs.declared.PrefixEntry.{PrefixEntry}
-use Rattle.one_answer.specs.One.{Fills}
+use Rattle.one_answer.proofs.General.{both}
+use Rattle.one_answer.specs.One.{One}
 
 -- diag_tables::decode
-pub decode : (payload : List ℕ) (prefixes : List PrefixEntry) (has-route : List HasRouteEntry) (border-routers : List BorderRouterEntry)
-    → Fills (λ (r : Decoded) (prefixes-left : List PrefixEntry) (has-route-left : List HasRouteEntry) (border-routers-left : List BorderRouterEntry). outcome (decodedAnswer payload r) prefixes-left has-route-left border-routers-left ≡ decoded payload prefixes has-route border-routers)
-decode payload prefixes has-route border-routers r q p p′ h h′ b b′ e f = outcome-tells payload r q p p′ h h′ b b′ (e ∙ sym f)
+pub decode : One Rattle.diag_tables.proofs.decode.ended (λ M. Rattle.diag_tables.proofs.decode.clauses)
+decode x r q left over = both (x .𝓤) _ _ _ (λ e f. let same = outcome-tells (x .passed .0 .now) r q _ _ _ _ _ _ (e ∙ sym f) in (same .0, λ i. (tt, (same .1 i, (same .2 i, (same .3 i, tt))))))

@@ -1,24 +1,18 @@
--- One possible answer for each public call of `listing`: each line is the call's own promise.
+-- One possible answer for each public call of `listing`.
 -- Assumes nothing.
-use mathlib.Core.List.{List}
-use mathlib.Core.Path.{_≡_}
-use Prim.Native.Nat.{ℕ}
-use Rattle.listing.specs.Listing.{listed, listedHex, report}
 use Rattle.refusal.proofs.Papers.{written-tells}
-use Rattle.refusal.specs.Answer.{given}
-use Rattle.refusal.specs.Output.{emit, output, writtenAnswer}
-use Rattle.refusal.specs.declared.Written.{Written}
-use Rattle.one_answer.specs.One.{Leaves}
-use Rattle.one_answer.proofs.General.{leaves}
+use Rattle.refusal.specs.Output.{writtenAnswer}
+use Rattle.one_answer.proofs.General.{both, leaves}
+use Rattle.one_answer.specs.One.{One}
 
 -- listing::list
-pub list : (s : List ℕ) (out : List ℕ) → Leaves (λ (r : Written) (left : List ℕ). output (writtenAnswer r) left ≡ emit (listed s) out)
-list s out = leaves writtenAnswer written-tells _
+pub list : One Rattle.listing.proofs.list.ended (λ M. Rattle.listing.proofs.list.clauses)
+list x r q left over = both (x .𝓤) _ _ _ (λ e f. let same = leaves writtenAnswer written-tells _ r q _ _ e f in (same .0, λ i. (tt, (same .1 i, tt))))
 
 -- listing::list_hex
-pub list-hex : (text : List ℕ) (out : List ℕ) → Leaves (λ (r : Written) (left : List ℕ). output (writtenAnswer r) left ≡ emit (listedHex text) out)
-list-hex text out = leaves writtenAnswer written-tells _
+pub list-hex : One Rattle.listing.proofs.list_hex.ended (λ M. Rattle.listing.proofs.list_hex.clauses)
+list-hex x r q left over = both (x .𝓤) _ _ _ (λ e f. let same = leaves writtenAnswer written-tells _ r q _ _ e f in (same .0, λ i. (tt, (same .1 i, tt))))
 
 -- listing::report_text
-pub report-text : (input : List ℕ) (out : List ℕ) → Leaves (λ (r : Written) (left : List ℕ). output (writtenAnswer r) left ≡ emit (given (report input)) out)
-report-text input out = leaves writtenAnswer written-tells _
+pub report-text : One Rattle.listing.proofs.report_text.ended (λ M. Rattle.listing.proofs.report_text.clauses)
+report-text x r q left over = both (x .𝓤) _ _ _ (λ e f. let same = leaves writtenAnswer written-tells _ r q _ _ e f in (same .0, λ i. (tt, (same .1 i, tt))))

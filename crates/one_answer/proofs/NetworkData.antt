@@ -1,16 +1,10 @@
--- One possible answer for each public call of `network_data`: each line is the call's own promise.
+-- One possible answer for each public call of `network_data`.
 -- Assumes nothing.
-use mathlib.Core.List.{List}
-use mathlib.Core.Path.{_≡_}
-use Prim.Native.Nat.{ℕ}
+use mathlib.Core.Path.{_∙_, refl, sym}
 use Rattle.network_data.proofs.Papers.{checked-tells}
-use Rattle.network_data.specs.Answers.{checkedAnswer}
-use Rattle.network_data.specs.Decode.{countsOf, decodeNetworkData}
-use Rattle.network_data.specs.declared.Checked.{Checked}
-use Rattle.refusal.specs.Answer.{onGiven}
+use Rattle.one_answer.proofs.General.{both}
 use Rattle.one_answer.specs.One.{One}
-use Rattle.one_answer.proofs.General.{one}
 
 -- network_data::check
-pub check : (value : List ℕ) (place : ℕ) → One (λ (r : Checked). checkedAnswer r ≡ onGiven countsOf (decodeNetworkData place value))
-check value place = one checkedAnswer checked-tells _
+pub check : One Rattle.network_data.proofs.check.ended (λ M. Rattle.network_data.proofs.check.clauses)
+check x r q left over = both (x .𝓤) _ _ _ (λ e f. (checked-tells r q (e ∙ sym f), refl))

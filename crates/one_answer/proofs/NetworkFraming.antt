@@ -1,23 +1,18 @@
--- One possible answer for each public call of `network_framing`: each line is the call's own promise.
+-- One possible answer for each public call of `network_framing`.
 -- Assumes nothing.
-use mathlib.Core.List.{List}
-use mathlib.Core.Path.{_≡_}
-use Prim.Native.Nat.{ℕ}
-use lib.ListN.{length}
-use Rattle.network_framing.specs.Frame.{headAt, subIn}
-use Rattle.network_framing.specs.declared.Head.{Head}
-use Rattle.network_framing.specs.declared.SubTlv.{SubTlv}
+use mathlib.Core.Path.{_∙_, refl, sym}
+use Rattle.network_framing.proofs.Agrees.{head-tells, sub-tells}
+use Rattle.one_answer.proofs.General.{both}
 use Rattle.one_answer.specs.One.{One}
-use Rattle.one_answer.proofs.General.{one-itself}
 
 -- network_framing::sub_in
-pub sub-in : (s : List ℕ) (at end : ℕ) → One (λ (r : SubTlv). r ≡ subIn s at end)
-sub-in s at end = one-itself _
+pub sub-in : One Rattle.network_framing.proofs.sub_in.ended (λ M. Rattle.network_framing.proofs.sub_in.clauses)
+sub-in x r q left over = both (x .𝓤) _ _ _ (λ e f. (sub-tells r q (e ∙ sym f), refl))
 
 -- network_framing::sub_at
-pub sub-at : (s : List ℕ) (at : ℕ) → One (λ (r : SubTlv). r ≡ subIn s at (length s))
-sub-at s at = one-itself _
+pub sub-at : One Rattle.network_framing.proofs.sub_at.ended (λ M. Rattle.network_framing.proofs.sub_at.clauses)
+sub-at x r q left over = both (x .𝓤) _ _ _ (λ e f. (sub-tells r q (e ∙ sym f), refl))
 
 -- network_framing::head_at
-pub head-at : (s : List ℕ) (start end : ℕ) → One (λ (r : Head). r ≡ headAt s start end)
-head-at s start end = one-itself _
+pub head-at : One Rattle.network_framing.proofs.head_at.ended (λ M. Rattle.network_framing.proofs.head_at.clauses)
+head-at x r q left over = both (x .𝓤) _ _ _ (λ e f. (head-tells r q (e ∙ sym f), refl))

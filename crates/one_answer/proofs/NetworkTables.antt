@@ -1,38 +1,22 @@
--- One possible answer for each public call of `network_tables`: each line is the call's own promise.
+-- One possible answer for each public call of `network_tables`.
 -- Assumes nothing.
-use mathlib.Core.List.{List, map}
-use mathlib.Core.Path.{_≡_, sym, _∙_}
-use Prim.Native.Nat.{ℕ}
-use Rattle.network_data.specs.Answers.{checkedAnswer}
-use Rattle.network_data.specs.Decode.{Prefix, allBorders, allRoutes, decodeNetworkData, entryOf}
-use Rattle.network_data.specs.declared.BorderRouterEntry.{BorderRouterEntry}
-use Rattle.network_data.specs.declared.Checked.{Checked}
-use Rattle.network_data.specs.declared.HasRouteEntry.{HasRouteEntry}
-use Rattle.network_data.specs.declared.PrefixEntry.{PrefixEntry}
+use mathlib.Core.Path.{_∙_, refl, sym}
 use Rattle.network_tables.proofs.Papers.{border-router-tells, has-route-tells, outcome-tells, prefix-tells}
-use Rattle.network_tables.specs.Answers.{borderRouterAnswer, copied, hasRouteAnswer, prefixCopy}
-use Rattle.refusal.specs.Numbered.{nth}
-use Rattle.network_plans.specs.Tables.{decoded, outcome}
-use Rattle.network_tables.specs.declared.ReadBorderRouter.{ReadBorderRouter}
-use Rattle.network_tables.specs.declared.ReadHasRoute.{ReadHasRoute}
-use Rattle.network_tables.specs.declared.ReadPrefix.{ReadPrefix}
-use Rattle.refusal.specs.Answer.{thenDo}
-use Rattle.one_answer.specs.One.{One, Fills}
-use Rattle.one_answer.proofs.General.{one}
+use Rattle.one_answer.proofs.General.{both}
+use Rattle.one_answer.specs.One.{One}
 
 -- network_tables::has_route_at
-pub has-route-at : (value : List ℕ) (i : ℕ) → One (λ (r : ReadHasRoute). hasRouteAnswer r ≡ thenDo (decodeNetworkData 0 value) (λ (ps : List Prefix). nth (allRoutes ps) i))
-has-route-at value i = one hasRouteAnswer has-route-tells _
+pub has-route-at : One Rattle.network_tables.proofs.has_route_at.ended (λ M. Rattle.network_tables.proofs.has_route_at.clauses)
+has-route-at x r q left over = both (x .𝓤) _ _ _ (λ e f. (has-route-tells r q (e ∙ sym f), refl))
 
 -- network_tables::border_router_at
-pub border-router-at : (value : List ℕ) (i : ℕ) → One (λ (r : ReadBorderRouter). borderRouterAnswer r ≡ thenDo (decodeNetworkData 0 value) (λ (ps : List Prefix). nth (allBorders ps) i))
-border-router-at value i = one borderRouterAnswer border-router-tells _
+pub border-router-at : One Rattle.network_tables.proofs.border_router_at.ended (λ M. Rattle.network_tables.proofs.border_router_at.clauses)
+border-router-at x r q left over = both (x .𝓤) _ _ _ (λ e f. (border-router-tells r q (e ∙ sym f), refl))
 
 -- network_tables::prefix_at
-pub prefix-at : (value : List ℕ) (i : ℕ) → One (λ (r : ReadPrefix). prefixCopy r ≡ copied (thenDo (decodeNetworkData 0 value) (λ (ps : List Prefix). nth (map entryOf ps) i)))
-prefix-at value i = one prefixCopy prefix-tells _
+pub prefix-at : One Rattle.network_tables.proofs.prefix_at.ended (λ M. Rattle.network_tables.proofs.prefix_at.clauses)
+prefix-at x r q left over = both (x .𝓤) _ _ _ (λ e f. (prefix-tells r q (e ∙ sym f), refl))
 
 -- network_tables::decode
-pub decode : (value : List ℕ) (prefixes : List PrefixEntry) (has-route : List HasRouteEntry) (border-routers : List BorderRouterEntry)
-    → Fills (λ (r : Checked) (prefixes-left : List PrefixEntry) (has-route-left : List HasRouteEntry) (border-routers-left : List BorderRouterEntry). outcome (checkedAnswer r) prefixes-left has-route-left border-routers-left ≡ decoded (decodeNetworkData 0 value) prefixes has-route border-routers)
-decode value prefixes has-route border-routers r q p p′ h h′ b b′ e f = outcome-tells r q p p′ h h′ b b′ (e ∙ sym f)
+pub decode : One Rattle.network_tables.proofs.decode.ended (λ M. Rattle.network_tables.proofs.decode.clauses)
+decode x r q left over = both (x .𝓤) _ _ _ (λ e f. let same = outcome-tells r q _ _ _ _ _ _ (e ∙ sym f) in (same .0, λ i. (tt, (same .1 i, (same .2 i, (same .3 i, tt))))))

@@ -1,21 +1,17 @@
--- One possible answer for each public call of `pair_rule`: each line is the call's own promise.
+-- One possible answer for each public call of `pair_rule`.
 -- Assumes nothing.
-use mathlib.Core.Path.{_≡_}
-use Prim.Native.Nat.{ℕ}
-use Rattle.pair_rule.specs.Pairing.{judged}
-use Rattle.pair_rule.specs.Codes.{codeOf, meant}
-use Rattle.pair_rule.specs.declared.Pairing.{Pairing}
+use mathlib.Core.Path.{_∙_, refl, sym}
+use Rattle.one_answer.proofs.General.{both}
 use Rattle.one_answer.specs.One.{One}
-use Rattle.one_answer.proofs.General.{one-itself}
 
 -- pair_rule::Pairing::code
-pub pairing-code : (self : Pairing) → One (λ (r : ℕ). r ≡ codeOf self)
-pairing-code self = one-itself _
+pub pairing-code : One Rattle.pair_rule.proofs.Pairing.code.ended (λ M. Rattle.pair_rule.proofs.Pairing.code.clauses)
+pairing-code x r q left over = both (x .𝓤) _ _ _ (λ e f. (e ∙ sym f, refl))
 
 -- pair_rule::Pairing::from_code
-pub pairing-from-code : (code : ℕ) → One (λ (r : Pairing). r ≡ meant code)
-pairing-from-code code = one-itself _
+pub pairing-from-code : One Rattle.pair_rule.proofs.Pairing.from_code.ended (λ M. Rattle.pair_rule.proofs.Pairing.from_code.clauses)
+pairing-from-code x r q left over = both (x .𝓤) _ _ _ (λ e f. (e ∙ sym f, refl))
 
 -- pair_rule::judge
-pub judge : (rows lists place : ℕ) → One (λ (r : Pairing). r ≡ judged rows lists place)
-judge rows lists place = one-itself _
+pub judge : One Rattle.pair_rule.proofs.judge.ended (λ M. Rattle.pair_rule.proofs.judge.clauses)
+judge x r q left over = both (x .𝓤) _ _ _ (λ e f. (e ∙ sym f, refl))

@@ -1,21 +1,15 @@
--- One possible answer for each public call of `pairing`: each line is the call's own promise.
+-- One possible answer for each public call of `pairing`.
 -- Assumes nothing.
-use mathlib.Core.List.{List}
-use mathlib.Core.Path.{_≡_}
-use Prim.Native.Nat.{ℕ}
+use mathlib.Core.Path.{_∙_, refl, sym}
 use Rattle.pairing.proofs.Papers.{answered-tells, pairing-tells}
-use Rattle.pairing.specs.Answers.{answeredAnswer, pairingAnswer}
-use Rattle.pairing.specs.Payload.{codes, rowPairing}
-use Rattle.pairing.specs.declared.Answered.{Answered}
-use Rattle.pairing.specs.declared.ReadPairing.{ReadPairing}
-use Rattle.refusal.specs.Output.{emit, output}
-use Rattle.one_answer.specs.One.{Leaves, One}
-use Rattle.one_answer.proofs.General.{leaves, one}
+use Rattle.pairing.specs.Answers.{answeredAnswer}
+use Rattle.one_answer.proofs.General.{both, leaves}
+use Rattle.one_answer.specs.One.{One}
 
 -- pairing::pair
-pub pair : (payload : List ℕ) (out : List ℕ) → Leaves (λ (r : Answered) (left : List ℕ). output (answeredAnswer r) left ≡ emit (codes payload) out)
-pair payload out = leaves answeredAnswer answered-tells _
+pub pair : One Rattle.pairing.proofs.pair.ended (λ M. Rattle.pairing.proofs.pair.clauses)
+pair x r q left over = both (x .𝓤) _ _ _ (λ e f. let same = leaves answeredAnswer answered-tells _ r q _ _ e f in (same .0, λ i. (tt, (same .1 i, tt))))
 
 -- pairing::pair_row
-pub pair-row : (payload : List ℕ) (k : ℕ) → One (λ (r : ReadPairing). pairingAnswer r ≡ rowPairing k payload)
-pair-row payload k = one pairingAnswer pairing-tells _
+pub pair-row : One Rattle.pairing.proofs.pair_row.ended (λ M. Rattle.pairing.proofs.pair_row.clauses)
+pair-row x r q left over = both (x .𝓤) _ _ _ (λ e f. (pairing-tells r q (e ∙ sym f), refl))

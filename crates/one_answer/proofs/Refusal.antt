@@ -1,20 +1,14 @@
--- One possible answer for each public call of `refusal`: each line is the call's own promise.
+-- One possible answer for each public call of `refusal`.
 -- Assumes nothing.
-use mathlib.Core.Path.{_≡_}
-use Prim.Native.Nat.{ℕ}
+use mathlib.Core.Path.{_∙_, refl, sym}
 use Rattle.refusal.proofs.Papers.{written-tells}
-use Rattle.refusal.specs.Answer.{refused}
-use Rattle.refusal.specs.Number.{faultNumber}
-use Rattle.refusal.specs.Output.{writtenAnswer}
-use Rattle.refusal.specs.declared.Fault.{Fault}
-use Rattle.refusal.specs.declared.Written.{Written}
+use Rattle.one_answer.proofs.General.{both}
 use Rattle.one_answer.specs.One.{One}
-use Rattle.one_answer.proofs.General.{one, one-itself}
 
 -- refusal::refuse
-pub refuse : (fault : Fault) (place : ℕ) → One (λ (r : Written). writtenAnswer r ≡ refused (faultNumber fault) place 0)
-refuse fault place = one writtenAnswer written-tells _
+pub refuse : One Rattle.refusal.proofs.refuse.ended (λ M. Rattle.refusal.proofs.refuse.clauses)
+refuse x r q left over = both (x .𝓤) _ _ _ (λ e f. (written-tells r q (e ∙ sym f), refl))
 
 -- refusal::Fault::number
-pub fault-number : (self : Fault) → One (λ (r : ℕ). r ≡ faultNumber self)
-fault-number self = one-itself _
+pub fault-number : One Rattle.refusal.proofs.Fault.number.ended (λ M. Rattle.refusal.proofs.Fault.number.clauses)
+fault-number x r q left over = both (x .𝓤) _ _ _ (λ e f. (e ∙ sym f, refl))

@@ -1,23 +1,14 @@
--- One possible answer for each public call of `route64`: each line is the call's own promise.
+-- One possible answer for each public call of `route64`.
 -- Assumes nothing.
-use mathlib.Core.List.{List}
-use mathlib.Core.Path.{_≡_}
-use Prim.Native.Nat.{ℕ}
-use Rattle.diag_rules.specs.Rule.{valueOf}
-use Rattle.refusal.specs.Answer.{onGiven, thenDo}
-use Rattle.refusal.specs.Numbered.{nth}
+use mathlib.Core.Path.{_∙_, refl, sym}
 use Rattle.route64.proofs.Papers.{route-row-tells, route64-tells}
-use Rattle.route64.specs.Answers.{routeAnswer, routeRead}
-use Rattle.route64.specs.Routes.{laidOut, routeOf, routeRows}
-use Rattle.route64.specs.declared.ReadRoute.{ReadRoute}
-use Rattle.route64.specs.declared.ReadRoute64.{ReadRoute64}
+use Rattle.one_answer.proofs.General.{both}
 use Rattle.one_answer.specs.One.{One}
-use Rattle.one_answer.proofs.General.{one}
 
 -- route64::decode_route64
-pub decode-route64 : (value : List ℕ) (place : ℕ) → One (λ (r : ReadRoute64). routeRead r ≡ laidOut (onGiven routeOf (valueOf 5 place value)))
-decode-route64 value place = one routeRead route64-tells _
+pub decode-route64 : One Rattle.route64.proofs.decode_route64.ended (λ M. Rattle.route64.proofs.decode_route64.clauses)
+decode-route64 x r q left over = both (x .𝓤) _ _ _ (λ e f. (route64-tells r q (e ∙ sym f), refl))
 
 -- route64::route64_row
-pub route64-row : (value : List ℕ) (k : ℕ) → One (λ (r : ReadRoute). routeAnswer r ≡ thenDo (valueOf 5 0 value) (λ (v : List ℕ). nth (routeRows v) k))
-route64-row value k = one routeAnswer route-row-tells _
+pub route64-row : One Rattle.route64.proofs.route64_row.ended (λ M. Rattle.route64.proofs.route64_row.clauses)
+route64-row x r q left over = both (x .𝓤) _ _ _ (λ e f. (route-row-tells r q (e ∙ sym f), refl))

@@ -1,46 +1,38 @@
--- One possible answer for each public call of `timestamps`: each line is the call's own promise.
+-- One possible answer for each public call of `timestamps`.
 -- Assumes nothing.
-use mathlib.Core.Bool.{Bool}
-use mathlib.Core.List.{List}
-use mathlib.Core.Path.{_≡_}
-use Prim.Native.Nat.{ℕ}
-use Rattle.refusal.specs.Answer.{onGiven}
+use mathlib.Core.Path.{_∙_, refl, sym}
 use Rattle.timestamps.proofs.Papers.{timestamp-tells}
-use Rattle.timestamps.specs.Timestamps.{authoritativeOf, built, secondsOf, ticksOf, timestampAnswer, timestampBytes, timestampOf}
-use Rattle.timestamps.specs.declared.ReadTimestamp.{ReadTimestamp}
-use Rattle.timestamps.specs.declared.Timestamp.{Timestamp}
-use Rattle.wire.specs.Be.{ruled}
-use Rattle.one_answer.proofs.General.{one, one-itself, stamp-tells}
+use Rattle.one_answer.proofs.General.{both, stamp-tells}
 use Rattle.one_answer.specs.One.{One}
 
 -- timestamps::Timestamp::from_raw
-pub timestamp-from-raw : (raw : ℕ) → One (λ (r : Timestamp). r .0 ≡ raw)
-timestamp-from-raw raw = one (λ (r : Timestamp). r .0) stamp-tells _
+pub timestamp-from-raw : One Rattle.timestamps.proofs.Timestamp.from_raw.ended (λ M. Rattle.timestamps.proofs.Timestamp.from_raw.clauses)
+timestamp-from-raw x r q left over = both (x .𝓤) _ _ _ (λ e f. (stamp-tells r q (e ∙ sym f), refl))
 
 -- timestamps::Timestamp::from_components
-pub timestamp-from-components : (seconds : ℕ) (ticks : ℕ) (authoritative : Bool) → One (λ (r : Timestamp). r .0 ≡ built seconds ticks authoritative)
-timestamp-from-components seconds ticks authoritative = one (λ (r : Timestamp). r .0) stamp-tells _
+pub timestamp-from-components : One Rattle.timestamps.proofs.Timestamp.from_components.ended (λ M. Rattle.timestamps.proofs.Timestamp.from_components.clauses)
+timestamp-from-components x r q left over = both (x .𝓤) _ _ _ (λ e f. (stamp-tells r q (e ∙ sym f), refl))
 
 -- timestamps::Timestamp::parse
-pub timestamp-parse : (value : List ℕ) (place : ℕ) → One (λ (r : ReadTimestamp). timestampAnswer r ≡ onGiven timestampOf (ruled 8 place value))
-timestamp-parse value place = one timestampAnswer timestamp-tells _
+pub timestamp-parse : One Rattle.timestamps.proofs.Timestamp.parse.ended (λ M. Rattle.timestamps.proofs.Timestamp.parse.clauses)
+timestamp-parse x r q left over = both (x .𝓤) _ _ _ (λ e f. (timestamp-tells r q (e ∙ sym f), refl))
 
 -- timestamps::Timestamp::raw
-pub timestamp-raw : (self : Timestamp) → One (λ (r : ℕ). r ≡ self .0)
-timestamp-raw self = one-itself _
+pub timestamp-raw : One Rattle.timestamps.proofs.Timestamp.raw.ended (λ M. Rattle.timestamps.proofs.Timestamp.raw.clauses)
+timestamp-raw x r q left over = both (x .𝓤) _ _ _ (λ e f. (e ∙ sym f, refl))
 
 -- timestamps::Timestamp::seconds
-pub timestamp-seconds : (self : Timestamp) → One (λ (r : ℕ). r ≡ secondsOf (self .0))
-timestamp-seconds self = one-itself _
+pub timestamp-seconds : One Rattle.timestamps.proofs.Timestamp.seconds.ended (λ M. Rattle.timestamps.proofs.Timestamp.seconds.clauses)
+timestamp-seconds x r q left over = both (x .𝓤) _ _ _ (λ e f. (e ∙ sym f, refl))
 
 -- timestamps::Timestamp::ticks
-pub timestamp-ticks : (self : Timestamp) → One (λ (r : ℕ). r ≡ ticksOf (self .0))
-timestamp-ticks self = one-itself _
+pub timestamp-ticks : One Rattle.timestamps.proofs.Timestamp.ticks.ended (λ M. Rattle.timestamps.proofs.Timestamp.ticks.clauses)
+timestamp-ticks x r q left over = both (x .𝓤) _ _ _ (λ e f. (e ∙ sym f, refl))
 
 -- timestamps::Timestamp::authoritative
-pub timestamp-authoritative : (self : Timestamp) → One (λ (r : Bool). r ≡ authoritativeOf (self .0))
-timestamp-authoritative self = one-itself _
+pub timestamp-authoritative : One Rattle.timestamps.proofs.Timestamp.authoritative.ended (λ M. Rattle.timestamps.proofs.Timestamp.authoritative.clauses)
+timestamp-authoritative x r q left over = both (x .𝓤) _ _ _ (λ e f. (e ∙ sym f, refl))
 
 -- timestamps::Timestamp::to_value
-pub timestamp-to-value : (self : Timestamp) → One (λ (r : List ℕ). r ≡ timestampBytes self)
-timestamp-to-value self = one-itself _
+pub timestamp-to-value : One Rattle.timestamps.proofs.Timestamp.to_value.ended (λ M. Rattle.timestamps.proofs.Timestamp.to_value.clauses)
+timestamp-to-value x r q left over = both (x .𝓤) _ _ _ (λ e f. (e ∙ sym f, refl))

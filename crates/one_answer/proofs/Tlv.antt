@@ -1,39 +1,28 @@
--- One possible answer for each public call of `tlv`: each line is the call's own promise.
+-- One possible answer for each public call of `tlv`.
 -- Assumes nothing.
-use mathlib.Core.List.{List}
-use mathlib.Core.Path.{_≡_}
-use Prim.Native.Nat.{ℕ}
+use denote.Ref.{now}
+use mathlib.Core.Path.{_∙_, refl, sym}
 use Rattle.tlv.proofs.Papers.{counted-tells, parsed-tells}
 use Rattle.tlv_last.proofs.Papers.{found-tells}
-use Rattle.tlv.specs.Answers.{countedAnswer, headOf, parsedAnswer}
-use Rattle.tlv_last.specs.Answers.{foundAnswer}
-use Rattle.tlv.specs.Entries.{first}
-use Rattle.tlv_last.specs.Last.{lastSpot, lastValue}
-use Rattle.tlv.specs.Limits.{count}
-use Rattle.tlv.specs.Place.{frameAt}
-use Rattle.tlv.specs.declared.Counted.{Counted}
-use Rattle.tlv_last.specs.declared.Found.{Found}
-use Rattle.tlv.specs.declared.Frame.{Frame}
-use Rattle.tlv.specs.declared.Parsed.{Parsed}
-use Rattle.one_answer.proofs.General.{one, one-itself}
-use Rattle.one_answer.specs.One.{One}
+use Rattle.one_answer.proofs.General.{both}
+use Rattle.one_answer.specs.One.{One, OneBy}
 
 -- tlv::frame_at
-pub frame-at : (s : List ℕ) (at : ℕ) → One (λ (r : Frame). r ≡ frameAt s at)
-frame-at s at = one-itself _
+pub frame-at : One Rattle.tlv.proofs.frame_at.ended (λ M. Rattle.tlv.proofs.frame_at.clauses)
+frame-at x r q left over = both (x .𝓤) _ _ _ (λ e f. (e ∙ sym f, refl))
 
 -- tlv::parse_one
-pub parse-one : (s : List ℕ) → One (λ (r : Parsed). parsedAnswer r ≡ headOf (first s))
-parse-one s = one parsedAnswer parsed-tells _
+pub parse-one : One Rattle.tlv.proofs.parse_one.ended (λ M. Rattle.tlv.proofs.parse_one.clauses)
+parse-one x r q left over = both (x .𝓤) _ _ _ (λ e f. (parsed-tells r q (e ∙ sym f), refl))
 
 -- tlv::count_entries
-pub count-entries : (s : List ℕ) (input : ℕ) → One (λ (r : Counted). countedAnswer r ≡ count input s)
-count-entries s input = one countedAnswer counted-tells _
+pub count-entries : One Rattle.tlv.proofs.count_entries.ended (λ M. Rattle.tlv.proofs.count_entries.clauses)
+count-entries x r q left over = both (x .𝓤) _ _ _ (λ e f. (counted-tells r q (e ∙ sym f), refl))
 
 -- tlv_last::last_entry
-pub last-entry : (s : List ℕ) (ty : ℕ) (input : ℕ) → One (λ (r : Found). foundAnswer r ≡ lastSpot ty input s)
-last-entry s ty input = one foundAnswer found-tells _
+pub last-entry : One Rattle.tlv_last.proofs.last_entry.ended (λ M. Rattle.tlv_last.proofs.last_entry.clauses)
+last-entry x r q left over = both (x .𝓤) _ _ _ (λ e f. (found-tells r q (e ∙ sym f), refl))
 
 -- tlv_last::last_value
-pub last-value : (s : List ℕ) (ty : ℕ) → One (λ (r : List ℕ). r ≡ lastValue ty s)
-last-value s ty = one-itself _
+pub last-value : OneBy Rattle.tlv_last.proofs.last_value.ended (λ κs r. now r) (λ M. Rattle.tlv_last.proofs.last_value.clauses)
+last-value x r q left over = both (x .𝓤) _ _ _ (λ e f. (e ∙ sym f, refl))

@@ -1,25 +1,18 @@
--- One possible answer for each public call of `tlv_rewriting`: each line is the call's own promise.
+-- One possible answer for each public call of `tlv_rewriting`.
 -- Assumes nothing.
-use mathlib.Core.List.{List}
-use mathlib.Core.Path.{_≡_}
-use Prim.Native.Nat.{ℕ}
 use Rattle.refusal.proofs.Papers.{written-tells}
-use Rattle.refusal.specs.Output.{emit, output, writtenAnswer}
-use Rattle.refusal.specs.declared.Written.{Written}
-use Rattle.tlv_rewriting.specs.Rewrite.{rewritten, withSet}
-use Rattle.tlv_rewriting.specs.declared.Choice.{Choice}
-use Rattle.tlv_rewriting.specs.declared.Choice.the-variants.{All}
-use Rattle.one_answer.proofs.General.{leaves}
-use Rattle.one_answer.specs.One.{Leaves}
+use Rattle.refusal.specs.Output.{writtenAnswer}
+use Rattle.one_answer.proofs.General.{both, leaves}
+use Rattle.one_answer.specs.One.{One}
 
 -- tlv_rewriting::write_kept
-pub write-kept : (s : List ℕ) (c : Choice) (out : List ℕ) → Leaves (λ (r : Written) (left : List ℕ). output (writtenAnswer r) left ≡ emit (rewritten c s) out)
-write-kept s c out = leaves writtenAnswer written-tells _
+pub write-kept : One Rattle.tlv_rewriting.proofs.write_kept.ended (λ M. Rattle.tlv_rewriting.proofs.write_kept.clauses)
+write-kept x r q left over = both (x .𝓤) _ _ _ (λ e f. let same = leaves writtenAnswer written-tells _ r q _ _ e f in (same .0, λ i. (tt, (tt, (same .1 i, tt)))))
 
 -- tlv_rewriting::rewrite
-pub rewrite : (s : List ℕ) (out : List ℕ) → Leaves (λ (r : Written) (left : List ℕ). output (writtenAnswer r) left ≡ emit (rewritten All s) out)
-rewrite s out = leaves writtenAnswer written-tells _
+pub rewrite : One Rattle.tlv_rewriting.proofs.rewrite.ended (λ M. Rattle.tlv_rewriting.proofs.rewrite.clauses)
+rewrite x r q left over = both (x .𝓤) _ _ _ (λ e f. let same = leaves writtenAnswer written-tells _ r q _ _ e f in (same .0, λ i. (tt, (same .1 i, tt))))
 
 -- tlv_rewriting::set_last
-pub set-last : (s : List ℕ) (ty : ℕ) (value : List ℕ) (out : List ℕ) → Leaves (λ (r : Written) (left : List ℕ). output (writtenAnswer r) left ≡ emit (withSet ty value s) out)
-set-last s ty value out = leaves writtenAnswer written-tells _
+pub set-last : One Rattle.tlv_rewriting.proofs.set_last.ended (λ M. Rattle.tlv_rewriting.proofs.set_last.clauses)
+set-last x r q left over = both (x .𝓤) _ _ _ (λ e f. let same = leaves writtenAnswer written-tells _ r q _ _ e f in (same .0, λ i. (tt, (tt, (tt, (same .1 i, tt))))))

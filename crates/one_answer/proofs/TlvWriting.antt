@@ -1,23 +1,19 @@
--- One possible answer for each public call of `tlv_writing`: each line is the call's own promise.
+-- One possible answer for each public call of `tlv_writing`.
 -- Assumes nothing.
-use mathlib.Core.List.{List}
-use mathlib.Core.Path.{_≡_}
-use Prim.Native.Nat.{ℕ}
+use mathlib.Core.Path.{_∙_, refl, sym}
 use Rattle.refusal.proofs.Papers.{written-tells}
-use Rattle.refusal.specs.Output.{emit, output, placing, writtenAnswer}
-use Rattle.refusal.specs.declared.Written.{Written}
-use Rattle.tlv_writing.specs.Encode.{entrySize, encoded, placedIf}
-use Rattle.one_answer.proofs.General.{one-itself, leaves, leaves-placed}
-use Rattle.one_answer.specs.One.{One, Leaves}
+use Rattle.refusal.specs.Output.{writtenAnswer}
+use Rattle.one_answer.proofs.General.{both, leaves, leaves-placed}
+use Rattle.one_answer.specs.One.{One}
 
 -- tlv_writing::entry_size
-pub entry-size : (n : ℕ) → One (λ (r : ℕ). r ≡ entrySize n)
-entry-size n = one-itself _
+pub entry-size : One Rattle.tlv_writing.proofs.entry_size.ended (λ M. Rattle.tlv_writing.proofs.entry_size.clauses)
+entry-size x r q left over = both (x .𝓤) _ _ _ (λ e f. (e ∙ sym f, refl))
 
 -- tlv_writing::put_entry
-pub put-entry : (ty : ℕ) (value : List ℕ) (out : List ℕ) (at : ℕ) → Leaves (λ (r : ℕ) (left : List ℕ). placing r left ≡ placedIf (encoded ty value) at out)
-put-entry ty value out at = leaves-placed _
+pub put-entry : One Rattle.tlv_writing.proofs.put_entry.ended (λ M. Rattle.tlv_writing.proofs.put_entry.clauses)
+put-entry x r q left over = both (x .𝓤) _ _ _ (λ e f. let same = leaves-placed _ r q _ _ e f in (same .0, λ i. (tt, (tt, (same .1 i, (tt, tt))))))
 
 -- tlv_writing::write_entry
-pub write-entry : (ty : ℕ) (value : List ℕ) (out : List ℕ) → Leaves (λ (r : Written) (left : List ℕ). output (writtenAnswer r) left ≡ emit (encoded ty value) out)
-write-entry ty value out = leaves writtenAnswer written-tells _
+pub write-entry : One Rattle.tlv_writing.proofs.write_entry.ended (λ M. Rattle.tlv_writing.proofs.write_entry.clauses)
+write-entry x r q left over = both (x .𝓤) _ _ _ (λ e f. let same = leaves writtenAnswer written-tells _ r q _ _ e f in (same .0, λ i. (tt, (tt, (same .1 i, tt)))))

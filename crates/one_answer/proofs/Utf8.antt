@@ -1,17 +1,13 @@
--- One possible answer for each public call of `utf8`: each line is the call's own promise.
+-- One possible answer for each public call of `utf8`.
 -- Assumes nothing.
-use mathlib.Core.Bool.{Bool}
-use mathlib.Core.List.{List}
-use mathlib.Core.Path.{_≡_}
-use Prim.Native.Nat.{ℕ}
-use Rattle.utf8.specs.Utf8.{classOf, octets}
+use mathlib.Core.Path.{_∙_, refl, sym}
+use Rattle.one_answer.proofs.General.{both}
 use Rattle.one_answer.specs.One.{One}
-use Rattle.one_answer.proofs.General.{one-itself}
 
 -- utf8::is_utf8
-pub is-utf8 : (s : List ℕ) → One (λ (r : Bool). r ≡ octets s)
-is-utf8 s = one-itself _
+pub is-utf8 : One Rattle.utf8.proofs.is_utf8.ended (λ M. Rattle.utf8.proofs.is_utf8.clauses)
+is-utf8 x r q left over = both (x .𝓤) _ _ _ (λ e f. (e ∙ sym f, refl))
 
 -- utf8::class
-pub class : (b : ℕ) → One (λ (r : ℕ). r ≡ classOf b)
-class b = one-itself _
+pub class : One Rattle.utf8.proofs.class.ended (λ M. Rattle.utf8.proofs.class.clauses)
+class x r q left over = both (x .𝓤) _ _ _ (λ e f. (e ∙ sym f, refl))

@@ -1,48 +1,38 @@
--- One possible answer for each public call of `wire`, `wire_bytes` and `copying`: each line is the call's own promise.
+-- One possible answer for each public call of `wire`, `wire_bytes` and `copying`.
 -- Assumes nothing.
-use mathlib.Core.List.{List}
-use mathlib.Core.Path.{_≡_}
-use Prim.Native.Nat.{ℕ}
-use Rattle.refusal.specs.Number.{refusalAnswer}
-use Rattle.refusal.specs.Output.{placed, placing}
-use Rattle.refusal.specs.declared.Refusal.{Refusal}
+use mathlib.Core.Path.{_∙_, refl, sym}
 use Rattle.wire.proofs.Papers.{read16-tells, read32-tells, read64-tells}
-use Rattle.wire.specs.Be.{answer16, answer32, answer64, fixed, wrongLength}
-use Rattle.wire.specs.declared.Read16.{Read16}
-use Rattle.wire.specs.declared.Read32.{Read32}
-use Rattle.wire.specs.declared.Read64.{Read64}
-use Rattle.wire_bytes.specs.Bytes.{bytesOf}
-use Rattle.one_answer.specs.One.{Leaves, One}
-use Rattle.one_answer.proofs.General.{leaves-placed, one, one-itself, refusal-tells}
+use Rattle.one_answer.proofs.General.{both, leaves-placed, refusal-tells}
+use Rattle.one_answer.specs.One.{One}
 
 -- wire::misfit
-pub misfit : (n : ℕ) (place : ℕ) → One (λ (r : Refusal). refusalAnswer {A = ℕ} r ≡ wrongLength place n)
-misfit n place = one (refusalAnswer {A = ℕ}) refusal-tells _
+pub misfit : One Rattle.wire.proofs.misfit.ended (λ M. Rattle.wire.proofs.misfit.clauses)
+misfit x r q left over = both (x .𝓤) _ _ _ (λ e f. (refusal-tells r q (e ∙ sym f), refl))
 
 -- wire::read_u16
-pub read-u16 : (value : List ℕ) (place : ℕ) → One (λ (r : Read16). answer16 r ≡ fixed 2 place value)
-read-u16 value place = one answer16 read16-tells _
+pub read-u16 : One Rattle.wire.proofs.read_u16.ended (λ M. Rattle.wire.proofs.read_u16.clauses)
+read-u16 x r q left over = both (x .𝓤) _ _ _ (λ e f. (read16-tells r q (e ∙ sym f), refl))
 
 -- wire::read_u32
-pub read-u32 : (value : List ℕ) (place : ℕ) → One (λ (r : Read32). answer32 r ≡ fixed 4 place value)
-read-u32 value place = one answer32 read32-tells _
+pub read-u32 : One Rattle.wire.proofs.read_u32.ended (λ M. Rattle.wire.proofs.read_u32.clauses)
+read-u32 x r q left over = both (x .𝓤) _ _ _ (λ e f. (read32-tells r q (e ∙ sym f), refl))
 
 -- wire::read_u64
-pub read-u64 : (value : List ℕ) (place : ℕ) → One (λ (r : Read64). answer64 r ≡ fixed 8 place value)
-read-u64 value place = one answer64 read64-tells _
+pub read-u64 : One Rattle.wire.proofs.read_u64.ended (λ M. Rattle.wire.proofs.read_u64.clauses)
+read-u64 x r q left over = both (x .𝓤) _ _ _ (λ e f. (read64-tells r q (e ∙ sym f), refl))
 
 -- wire_bytes::u16_bytes
-pub u16-bytes : (x : ℕ) → One (λ (r : List ℕ). r ≡ bytesOf 2 x)
-u16-bytes x = one-itself _
+pub u16-bytes : One Rattle.wire_bytes.proofs.u16_bytes.ended (λ M. Rattle.wire_bytes.proofs.u16_bytes.clauses)
+u16-bytes x r q left over = both (x .𝓤) _ _ _ (λ e f. (e ∙ sym f, refl))
 
 -- wire_bytes::u32_bytes
-pub u32-bytes : (x : ℕ) → One (λ (r : List ℕ). r ≡ bytesOf 4 x)
-u32-bytes x = one-itself _
+pub u32-bytes : One Rattle.wire_bytes.proofs.u32_bytes.ended (λ M. Rattle.wire_bytes.proofs.u32_bytes.clauses)
+u32-bytes x r q left over = both (x .𝓤) _ _ _ (λ e f. (e ∙ sym f, refl))
 
 -- wire_bytes::u64_bytes
-pub u64-bytes : (x : ℕ) → One (λ (r : List ℕ). r ≡ bytesOf 8 x)
-u64-bytes x = one-itself _
+pub u64-bytes : One Rattle.wire_bytes.proofs.u64_bytes.ended (λ M. Rattle.wire_bytes.proofs.u64_bytes.clauses)
+u64-bytes x r q left over = both (x .𝓤) _ _ _ (λ e f. (e ∙ sym f, refl))
 
 -- copying::put_bytes
-pub put-bytes : (bytes : List ℕ) (out : List ℕ) (at : ℕ) → Leaves (λ (r : ℕ) (left : List ℕ). placing r left ≡ placed bytes at out)
-put-bytes bytes out at = leaves-placed _
+pub put-bytes : One Rattle.copying.proofs.put_bytes.ended (λ M. Rattle.copying.proofs.put_bytes.clauses)
+put-bytes x r q left over = both (x .𝓤) _ _ _ (λ e f. let same = leaves-placed _ r q _ _ e f in (same .0, λ i. (tt, (same .1 i, (tt, tt)))))

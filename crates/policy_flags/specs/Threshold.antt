@@ -3,11 +3,16 @@
 -- Assumes nothing.
 use Prim.Native.Nat.{ℕ, _+_, _-_, _*_, _/_, _%_}
 use mathlib.Core.Bool.{Bool}
+use mathlib.Core.List.{List, [], _∷_}
 use lib.Bits.{bitAnd}
 use lib.Dec.{eqb}
 use Rattle.refusal.specs.Answer.{pick}
 use Rattle.policy_flags.specs.declared.ThreadProtocolVersion.{ThreadProtocolVersion}
 use Rattle.policy_flags.specs.declared.ThreadProtocolVersion.the-variants as v
+
+-- the Rust's masks, in its order
+abbrev pub flagMasks : List ℕ
+flagMasks = 0x0001 ∷ 0x0002 ∷ 0x0004 ∷ 0x0008 ∷ 0x0010 ∷ []
 
 -- "contains all of the mask"
 abbrev pub hasAll : (bits mask : ℕ) → Bool

@@ -1,6 +1,6 @@
 // The flags of a security policy (dataset.rs), and the version threshold for routing that they hold.
 ghost use mathlib.Core.Path.{_≡_};
-ghost use Rattle.policy_flags.specs.Threshold.{hasAll, threshold, withThreshold};
+ghost use Rattle.policy_flags.specs.Threshold.{flagMasks, hasAll, threshold, withThreshold};
 
 pub struct SecurityPolicyFlags(pub u16);
 
@@ -91,4 +91,17 @@ impl SecurityPolicyFlags {
             ThreadProtocolVersion::V10 => SecurityPolicyFlags(rest + 57344),
         }
     }
+}
+
+// The public constants, held to their numbers.
+fn constants() -> [u16; 5]
+    ensures { λ r. ⌜ r ≡ flagMasks ⌝ }
+{
+    [
+        SecurityPolicyFlags::OUT_OF_BAND_COMMISSIONING_DISALLOWED,
+        SecurityPolicyFlags::NATIVE_COMMISSIONING_DISALLOWED,
+        SecurityPolicyFlags::LEGACY_ROUTERS_ENABLED,
+        SecurityPolicyFlags::EXTERNAL_COMMISSIONER_AUTH_REQUIRED,
+        SecurityPolicyFlags::COMMERCIAL_COMMISSIONING_MODE,
+    ]
 }

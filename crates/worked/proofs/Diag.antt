@@ -9,8 +9,8 @@ use Rattle.wire.specs.Be.{be, beFrom}
 use Rattle.tlv.specs.Entries.{valued, first, step, frames, framing}
 use Rattle.tlv.specs.Limits.{limited, framed}
 use Rattle.tlv_last.specs.Last.{lastOf}
-use Rattle.network_framing.specs.Frame.{subIn, headAt}
-use Rattle.network_framing.specs.Walk as w
+use Rattle.network_framing.specs.Frame.{headAt, innerOf, walkIn}
+use Rattle.network_framing.specs.Tlvs as w
 use Rattle.network_data.specs.Rules.{ended, rules, checkIn, checkHead, checkPrefix, values, checkFrom, checkValue}
 use Rattle.network_data.specs.Decode.{prefixes, contents, allRoutes, allBorders, countsOf, decodeNetworkData}
 use Rattle.diag_rules.specs.Rule.{keepsRule, valueOf}
@@ -42,7 +42,7 @@ lines =
 
 pub refusals : Every (λ (l : Line). decode (l .0) ≡ refused (l .1) (l .2) 0) lines
 unfolding decode checked decoding entryValue valueOf keepsRule framed limited framing frames step first valued decodeNetworkData checkValue checkFrom
-    values checkPrefix checkHead headAt checkIn rules ended subIn w.walkIn w.walk w.step
+    values checkPrefix checkHead headAt checkIn rules ended walkIn innerOf w.frames w.step w.first w.opened
 refusals = (refl, (refl, (refl, (refl, (refl, (refl, (refl, tt)))))))
 
 abbrev nothing : {A : Type 0} → (start : ℕ) → A → Answer (Said A)
@@ -72,13 +72,13 @@ pub present-and-empty : decode (0x08 ∷ 0x00 ∷ 0x10 ∷ 0x00 ∷ 0x00 ∷ 0x0
   childLists = 0;
 }
 unfolding decode checked decoding entryValue valueOf keepsRule framed limited framing frames step first valued decodeNetworkData checkValue checkFrom
-    values ended subIn w.walkIn w.walk w.step diag lastOf contents prefixes countsOf allRoutes allBorders addressLists allOf nth childRows addresses listed
+    values ended walkIn innerOf w.frames w.step w.first w.opened diag lastOf contents prefixes countsOf allRoutes allBorders addressLists allOf nth childRows addresses listed
 present-and-empty = refl
 
 -- of two values of type 7 the last counts, which has no prefixes
 pub last-network-data : onGiven (λ (d : Diag). d .networkData) (decode (0x07 ∷ 0x04 ∷ 0x02 ∷ 0x02 ∷ 0x00 ∷ 0x00 ∷ 0x07 ∷ 0x00 ∷ [])) ≡ given (nothing 8 noPrefixes)
 unfolding decode checked decoding entryValue valueOf keepsRule framed limited framing frames step first valued decodeNetworkData checkValue checkFrom
-    values checkPrefix checkHead headAt checkIn rules ended subIn w.walkIn w.walk w.step diag lastOf allOf nth contents prefixes countsOf allRoutes allBorders
+    values checkPrefix checkHead headAt checkIn rules ended walkIn innerOf w.frames w.step w.first w.opened diag lastOf allOf nth contents prefixes countsOf allRoutes allBorders
 last-network-data = refl
 
 -- two lists of type 30, each RLOC16 0x2801 alone

@@ -5,8 +5,8 @@ use mathlib.Core.Bool.{true}
 use mathlib.Core.List.{List, [], _∷_}
 use Rattle.refusal.specs.Answer.{Answer, given, absent, refused}
 use Rattle.refusal.specs.Every.{Every}
-use Rattle.network_framing.specs.Frame.{subIn, headAt}
-use Rattle.network_framing.specs.Walk.{step, walk, walkIn}
+use Rattle.network_framing.specs.Frame.{headAt, innerOf, walkIn}
+use Rattle.network_framing.specs.Tlvs.{first, opened, step, frames}
 use Rattle.network_data.specs.Rules.{join, rule, ended, rules, checkIn, checkHead, checkPrefix, values, checkFrom, checkValue}
 use Rattle.network_data.specs.Decode.{rowPlaces, placesIn, lastContext, Prefix, headItems, inner, prefixAt, prefixes, contents, decodeNetworkData}
 
@@ -25,5 +25,5 @@ lines =
 
 pub bench : Every (λ (l : Line). l .0 ≡ l .1) lines
 unfolding decodeNetworkData contents prefixes prefixAt inner headItems lastContext placesIn rowPlaces checkValue checkFrom values checkPrefix checkHead
-    checkIn rules ended rule join headAt walkIn walk step subIn
+    checkIn rules ended rule join headAt innerOf walkIn frames step first opened
 bench = (refl, (refl, (refl, (refl, tt))))

@@ -1,54 +1,78 @@
--- `network_framing::head_at` meets its contract: at each `return` the tests that led there say which case of `headAt` holds.
+-- `network_framing::head_at` meets its contract: at each `return` the tests that led there say which case of `headPlace` holds.
 -- Assumes nothing.
-use borrow.Author.Needs.{needs}
-use mathlib.Core.Path.{sym}
-use borrow.Author.Tests.{lt-ltb, le-ltb}
+use borrow.Author.Tests.{lt-ltb, le-ltb, le-leb, lt-leb}
 use native.Mathlib.Omega.{arith}
-use Prim.Native.Nat.{_-_, _<_}
-use Rattle.network_framing.specs.Frame.{headAt}
+use Prim.Native.Nat.{_+_, _/_}
+use denote.Ref.{now}
+use lib.ListN.{getD}
+use Rattle.network_framing.specs.Tlvs.{bytesFor}
+use Rattle.network_framing.specs.Place.{headPlace}
+use Rattle.network_framing.proofs.Agrees.{head-is}
+use Rattle.network_framing.specs.declared.Head.the-variants.{Inner, Short}
+use borrow.Author.Needs.{needs}
 use Rattle.network_framing.proofs.head_at.Statement.{statement}
 use Rattle.network_framing.proofs.head_at.Tie as tie
 
 returns : tie.Need-returns
-unfolding headAt
+unfolding headPlace
 returns c =
-    let a = c .before .before .args in
-    let l : a .end - a .start < 2 = omega arith in
-    simp (lt-ltb _ _ l)
+    let a = c .before .args in
+    head-is (now (a .s)) (a .start) (a .end) Short (simp (le-leb _ _ (c .if1 .taken)))
 
 returns-2 : tie.Need-returns-2
-unfolding headAt
-returns-2 c = simp (lt-ltb _ _ (c .if2 .taken))
+unfolding headPlace
+returns-2 c =
+    let a = c .before .before .args in
+    head-is (now (a .s)) (a .start) (a .end) Short (simp (lt-leb _ _ (c .before .if1 .left), lt-ltb _ _ (c .if2 .taken)))
 
-add-byte-at : tie.Need-add-byte-at
-add-byte-at c = search needs
+sub-n : tie.Need-sub-n
+sub-n c = search needs
 
-byte-at-requires : tie.Need-byte-at-requires
-byte-at-requires c κs = search needs
-
-cast-need : tie.Need-cast-need
-cast-need c = search needs
+returns-3 : tie.Need-returns-3
+unfolding headPlace
+returns-3 c =
+    let a = c .before .before .before .args in
+    head-is (now (a .s)) (a .start) (a .end) Short (simp (lt-leb _ _ (c .before .before .if1 .left), le-ltb _ _ (c .before .if2 .left), lt-ltb _ _ (c .if3 .taken)))
 
 add-need : tie.Need-add-need
 add-need c = search needs
 
+shared-slice-read-need : tie.Need-shared-slice-read-need
+shared-slice-read-need c = search needs
+
+cast-need : tie.Need-cast-need
+cast-need c =
+    let a = c .before .before .before .before .args in
+    omega (arith, c .shared-slice-known .given (a .start + 1))
+
 add-need-2 : tie.Need-add-need-2
-add-need-2 c = search needs
+add-need-2 c =
+    let a = c .before .before .before .before .args in
+    omega (arith, c .shared-slice-known .given (a .start + 1))
 
-returns-3 : tie.Need-returns-3
-unfolding headAt
-returns-3 c =
-    let b = c .before in
-    simp (le-ltb _ _ (b .before .if2 .left), sym (b .byte-at .ensures), lt-ltb _ _ (c .if3 .taken))
-
-add-t11 : tie.Need-add-t11
-add-t11 c = search needs
+add-need-3 : tie.Need-add-need-3
+add-need-3 c =
+    let a = c .before .before .before .before .args in
+    omega (arith, c .shared-slice-known .given (a .start + 1))
 
 returns-4 : tie.Need-returns-4
-unfolding headAt
+unfolding headPlace
 returns-4 c =
-    let b = c .before in
-    simp (le-ltb _ _ (b .before .if2 .left), sym (b .byte-at .ensures), le-ltb _ _ (c .if3 .left))
+    let e3 = c .before .before in
+    let a = c .before .before .before .before .before .args in
+    head-is (now (a .s)) (a .start) (a .end) Short
+    (simp (lt-leb _ _ (e3 .before .before .if1 .left), le-ltb _ _ (e3 .before .if2 .left), le-ltb _ _ (e3 .if3 .left), lt-ltb _ _ (c .if4 .taken)))
+
+add-t12 : tie.Need-add-t12
+add-t12 c = search needs
+
+returns-5 : tie.Need-returns-5
+unfolding headPlace
+returns-5 c =
+    let e3 = c .before .before in
+    let a = c .before .before .before .before .before .args in
+    head-is (now (a .s)) (a .start) (a .end) (Inner (a .start + (2 + bytesFor (getD (now (a .s)) (a .start + 1) 0))))
+    (simp (lt-leb _ _ (e3 .before .before .if1 .left), le-ltb _ _ (e3 .before .if2 .left), le-ltb _ _ (e3 .if3 .left), le-ltb _ _ (c .if4 .left)))
 
 pub head-at-spec : {M : Type 1} → statement M
 head-at-spec =
@@ -56,11 +80,13 @@ head-at-spec =
     (tie.spec
     returns
     returns-2
-    add-byte-at
-    byte-at-requires
-    cast-need
-    add-need
-    add-need-2
+    sub-n
     returns-3
-    add-t11
-    returns-4)
+    add-need
+    shared-slice-read-need
+    cast-need
+    add-need-2
+    add-need-3
+    returns-4
+    add-t12
+    returns-5)

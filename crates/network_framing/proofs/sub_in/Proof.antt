@@ -1,71 +1,91 @@
--- `network_framing::sub_in` meets its contract: at each `return` the tests that led there say which case of `subIn` holds.
+-- `network_framing::sub_in` meets its contract: at each `return` the tests that led there say which case of `subPlace` holds.
 -- Assumes nothing.
-use borrow.Author.Needs.{needs}
-use mathlib.Core.Path.{sym}
 use borrow.Author.Tests.{lt-ltb, le-ltb, le-leb, lt-leb}
-use Rattle.network_framing.specs.Frame.{subIn}
+use native.Mathlib.Omega.{arith}
+use Prim.Native.Nat.{_+_, _/_}
+use denote.Ref.{now}
+use lib.ListN.{getD}
+use Rattle.network_framing.specs.Place.{subPlace}
+use Rattle.network_framing.proofs.Agrees.{sub-is}
+use Rattle.network_framing.specs.declared.SubTlv.the-variants.{Item, Cut, End}
+use borrow.Author.Needs.{needs}
 use Rattle.network_framing.proofs.sub_in.Statement.{statement}
 use Rattle.network_framing.proofs.sub_in.Tie as tie
 
 returns : tie.Need-returns
-unfolding subIn
-returns c = simp (le-leb _ _ (c .if1 .taken))
-
-sub-if2 : tie.Need-sub-if2
-sub-if2 c = search needs
+unfolding subPlace
+returns c =
+    let a = c .before .args in
+    sub-is (now (a .s)) (a .at) (a .end) End (simp (le-leb _ _ (c .if1 .taken)))
 
 returns-2 : tie.Need-returns-2
-unfolding subIn
-returns-2 c = simp (lt-leb _ _ (c .before .if1 .left), lt-ltb _ _ (c .if2 .taken))
-
-add-byte-at : tie.Need-add-byte-at
-add-byte-at c = search needs
-
-byte-at-requires : tie.Need-byte-at-requires
-byte-at-requires c κs = search needs
-
-cast-len : tie.Need-cast-len
-cast-len c = search needs
-
-add-if3 : tie.Need-add-if3
-add-if3 c = search needs
+unfolding subPlace
+returns-2 c =
+    let a = c .before .before .args in
+    sub-is (now (a .s)) (a .at) (a .end) Cut (simp (lt-leb _ _ (c .before .if1 .left), lt-ltb _ _ (c .if2 .taken)))
 
 sub-if3 : tie.Need-sub-if3
 sub-if3 c = search needs
 
-byte-at-requires-2 : tie.Need-byte-at-requires-2
-byte-at-requires-2 c κs = search needs
-
-add-t11 : tie.Need-add-t11
-add-t11 c = search needs
-
 returns-3 : tie.Need-returns-3
-unfolding subIn
+unfolding subPlace
 returns-3 c =
-    let b = c .before .before in
-    let e2 = b .before in
-    simp (lt-leb _ _ (e2 .before .if1 .left), le-ltb _ _ (e2 .if2 .left), sym (b .byte-at .ensures), sym (c .byte-at2 .ensures), le-leb _ _ (c .before .if3 .taken))
+    let a = c .before .before .before .args in
+    sub-is (now (a .s)) (a .at) (a .end) Cut (simp (lt-leb _ _ (c .before .before .if1 .left), le-ltb _ _ (c .before .if2 .left), lt-ltb _ _ (c .if3 .taken)))
+
+add-len : tie.Need-add-len
+add-len c = search needs
+
+shared-slice-read-len : tie.Need-shared-slice-read-len
+shared-slice-read-len c = search needs
+
+cast-len : tie.Need-cast-len
+cast-len c =
+    let a = c .before .before .before .before .args in
+    omega (arith, c .shared-slice-known .given (a .at + 1))
+
+add-if4 : tie.Need-add-if4
+add-if4 c = search needs
+
+sub-if4 : tie.Need-sub-if4
+sub-if4 c = search needs
+
+shared-slice-read-t11 : tie.Need-shared-slice-read-t11
+shared-slice-read-t11 c = search needs
+
+add-t13 : tie.Need-add-t13
+add-t13 c = search needs
 
 returns-4 : tie.Need-returns-4
-unfolding subIn
+unfolding subPlace
 returns-4 c =
-    let b = c .before in
-    let e2 = b .before in
-    simp (lt-leb _ _ (e2 .before .if1 .left), le-ltb _ _ (e2 .if2 .left), sym (b .byte-at .ensures), lt-leb _ _ (c .if3 .left))
+    let e3 = c .before .before .before in
+    let a = c .before .before .before .before .before .before .args in
+    sub-is (now (a .s)) (a .at) (a .end) (Item (getD (now (a .s)) (a .at) 0 / 2) (a .at + 2) (getD (now (a .s)) (a .at + 1) 0))
+    (simp (lt-leb _ _ (e3 .before .before .if1 .left), le-ltb _ _ (e3 .before .if2 .left), le-ltb _ _ (e3 .if3 .left), le-leb _ _ (c .before .if4 .taken)))
+
+returns-5 : tie.Need-returns-5
+unfolding subPlace
+returns-5 c =
+    let e3 = c .before .before in
+    let a = c .before .before .before .before .before .args in
+    sub-is (now (a .s)) (a .at) (a .end) Cut
+    (simp (lt-leb _ _ (e3 .before .before .if1 .left), le-ltb _ _ (e3 .before .if2 .left), le-ltb _ _ (e3 .if3 .left), lt-leb _ _ (c .if4 .left)))
 
 pub sub-in-spec : {M : Type 1} → statement M
 sub-in-spec =
     tie.close
     (tie.spec
     returns
-    sub-if2
     returns-2
-    add-byte-at
-    byte-at-requires
-    cast-len
-    add-if3
     sub-if3
-    byte-at-requires-2
-    add-t11
     returns-3
-    returns-4)
+    add-len
+    shared-slice-read-len
+    cast-len
+    add-if4
+    sub-if4
+    shared-slice-read-t11
+    add-t13
+    returns-4
+    returns-5)

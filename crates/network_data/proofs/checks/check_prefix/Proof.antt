@@ -1,8 +1,9 @@
 -- `network_data::checks::check_prefix` meets its contract: the size is tested, then the prefix's own bytes, then its inner TLVs.
 -- Assumes nothing.
 use borrow.Author.Needs.{needs}
-use mathlib.Core.Path.{sym, _∙_}
+use mathlib.Core.Path.{sym, ap, _∙_}
 use borrow.Author.Tests.{le-leb, lt-leb}
+use Rattle.network_framing.specs.Frame.{headAnswer}
 use Rattle.network_data.specs.Rules.{checkPrefix, checkHead}
 use Rattle.network_data.proofs.checks.check_prefix.Statement.{statement}
 use Rattle.network_data.proofs.checks.check_prefix.Tie as tie
@@ -36,13 +37,13 @@ returns-2 : tie.Need-returns-2
 unfolding checkPrefix checkHead
 returns-2 c =
     let h = c .before .before .before in
-    c .refuse2 .ensures ∙ simp (lt-leb _ _ (h .before .if1 .left), sym (h .head-at .ensures) ∙ c .before .enum-told .given .1)
+    c .refuse2 .ensures ∙ simp (lt-leb _ _ (h .before .if1 .left), sym (h .head-at .ensures) ∙ ap headAnswer (c .before .enum-told .given .1))
 
 returns-3 : tie.Need-returns-3
 unfolding checkPrefix checkHead
 returns-3 c =
     let h = c .before .before .before .before in
-    c .check-inner .ensures ∙ simp (lt-leb _ _ (h .before .if1 .left), sym (h .head-at .ensures) ∙ c .before .before .at .given .1)
+    c .check-inner .ensures ∙ simp (lt-leb _ _ (h .before .if1 .left), sym (h .head-at .ensures) ∙ ap headAnswer (c .before .before .at .given .1))
 
 pub check-prefix-spec : {M : Type 1} → statement M
 check-prefix-spec =

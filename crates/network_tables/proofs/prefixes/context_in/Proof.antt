@@ -4,7 +4,7 @@ use borrow.Author.Needs.{needs}
 use mathlib.Core.Path.{_≡_, refl, sym, ap, _∙_}
 use Prim.Native.Nat.{_-_}
 use native.Mathlib.Omega.{arith}
-use Rattle.network_framing.specs.Walk.{walkIn}
+use Rattle.network_framing.specs.Frame.{walkIn}
 use Rattle.network_framing.proofs.Walks.{turn-items, turn-none, turn-inside}
 use Rattle.refusal.specs.Answer.{absent}
 use Rattle.network_data.specs.Decode.{lastContext}
@@ -74,7 +74,7 @@ loop-again-3 c =
 returns : tie.Need-returns Inv-loop μ-loop
 returns c =
     let h = c .before in
-    sym (context-none _ _) ∙ ap (lastContext _ _) (sym (turn-none _ _ _ _ (h .sub-in .ensures) (c .match .keys2))) ∙ h .before .loop .inv
+    sym (context-none _ _) ∙ ap (lastContext _ _) (sym (turn-none _ _ _ (h .sub-in .result) (h .sub-in .ensures) (c .match .keys2))) ∙ h .before .loop .inv
 
 pub context-in-spec : {M : Type 1} → statement M
 context-in-spec =

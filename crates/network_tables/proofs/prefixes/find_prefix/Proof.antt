@@ -5,7 +5,7 @@ use mathlib.Core.Path.{_≡_, refl, sym, ap, _∙_}
 use Prim.Native.Nat.{_-_}
 use native.Mathlib.Omega.{arith}
 use lib.ListN.{length}
-use Rattle.network_framing.specs.Walk.{walkIn}
+use Rattle.network_framing.specs.Frame.{walkIn}
 use Rattle.network_framing.proofs.Walks.{turn-items, turn-none, turn-inside}
 use Rattle.network_tables.specs.Cursor.{spanOf}
 use Rattle.network_tables.proofs.Seeks.{span-none, span-hit, span-miss}
@@ -52,7 +52,7 @@ loop-again c =
 returns-2 : tie.Need-returns-2 Inv-loop μ-loop
 returns-2 c =
     let h = c .before in
-    sym span-none ∙ ap spanOf (sym (turn-none _ _ _ _ (h .sub-at .ensures) (c .match .keys2))) ∙ h .before .loop .inv
+    sym span-none ∙ ap spanOf (sym (turn-none _ _ _ (h .sub-at .result) (h .sub-at .ensures) (c .match .keys2))) ∙ h .before .loop .inv
 
 pub find-prefix-spec : {M : Type 1} → statement M
 find-prefix-spec =

@@ -5,7 +5,8 @@ use mathlib.Core.Path.{_≡_, ap, _∙_}
 use Prim.Native.Nat.{_+_, _-_, _≤_}
 use native.Mathlib.Omega.{arith}
 use lib.ListN.{length}
-use Rattle.network_framing.specs.Walk.{walkIn, Piece}
+use Rattle.network_framing.specs.Tlvs.{Piece}
+use Rattle.network_framing.specs.Frame.{walkIn}
 use Rattle.network_framing.proofs.Walks.{turn-items, turn-none, turn-inside}
 use native.Mathlib.Nat.{div-le-self, zero-add}
 use Rattle.network_data.specs.Decode.{placesIn}
@@ -74,7 +75,7 @@ returns : tie.Need-returns Inv-loop μ-loop
 returns c =
     let h = c .before in
     let a = h .before .before .before .args in
-    let one = ap (λ (l : List Piece). length (placesIn (a .ty) (a .size) l)) (turn-none _ _ _ _ (h .sub-in .ensures) (c .match .keys2)) ∙ rows-none (a .ty) (a .size) in
+    let one = ap (λ (l : List Piece). length (placesIn (a .ty) (a .size) l)) (turn-none _ _ _ (h .sub-in .result) (h .sub-in .ensures) (c .match .keys2)) ∙ rows-none (a .ty) (a .size) in
     omega (arith, h .before .loop .inv .1)
 
 pub rows-in-spec : {M : Type 1} → statement M

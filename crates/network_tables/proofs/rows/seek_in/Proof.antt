@@ -4,7 +4,7 @@ use borrow.Author.Needs.{needs}
 use mathlib.Core.Path.{_≡_, refl, sym, ap, _∙_}
 use Prim.Native.Nat.{_-_}
 use native.Mathlib.Omega.{arith}
-use Rattle.network_framing.specs.Walk.{walkIn}
+use Rattle.network_framing.specs.Frame.{walkIn}
 use Rattle.network_framing.proofs.Walks.{turn-items, turn-none, turn-inside}
 use Rattle.network_tables.specs.Cursor.{rowsIn}
 use Rattle.network_tables.proofs.Seeks.{in-empty, in-miss, in-hit, in-none}
@@ -68,7 +68,7 @@ no-rows-requires c κs = search needs
 returns-2 : tie.Need-returns-2 Inv-loop μ-loop
 returns-2 c =
     let h = c .before .before in
-    c .no-rows .ensures ∙ sym (in-empty _ _ _) ∙ ap (rowsIn _ _ _) (sym (turn-none _ _ _ _ (h .sub-in .ensures) (c .before .match .keys2))) ∙ h .before .loop .inv
+    c .no-rows .ensures ∙ sym (in-empty _ _ _) ∙ ap (rowsIn _ _ _) (sym (turn-none _ _ _ (h .sub-in .result) (h .sub-in .ensures) (c .before .match .keys2))) ∙ h .before .loop .inv
 
 pub seek-in-spec : {M : Type 1} → statement M
 seek-in-spec =

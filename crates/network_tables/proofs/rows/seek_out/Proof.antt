@@ -5,7 +5,7 @@ use mathlib.Core.Path.{_≡_, refl, sym, ap, _∙_}
 use Prim.Native.Nat.{_-_}
 use native.Mathlib.Omega.{arith}
 use lib.ListN.{length}
-use Rattle.network_framing.specs.Walk.{walkIn}
+use Rattle.network_framing.specs.Frame.{walkIn}
 use Rattle.network_framing.proofs.Walks.{turn-items, turn-none, turn-inside}
 use Rattle.network_tables.specs.Cursor.{rowsOut}
 use Rattle.network_tables.proofs.Seeks.{out-empty, seek-miss, seek-hit, seek-none}
@@ -74,7 +74,7 @@ no-rows-requires c κs = search needs
 returns-2 : tie.Need-returns-2 Inv-loop μ-loop
 returns-2 c =
     let h = c .before .before in
-    c .no-rows .ensures ∙ sym (out-empty _ _ _) ∙ ap (rowsOut _ _ _) (sym (turn-none _ _ _ _ (h .sub-at .ensures) (c .before .match .keys2))) ∙ h .before .loop .inv
+    c .no-rows .ensures ∙ sym (out-empty _ _ _) ∙ ap (rowsOut _ _ _) (sym (turn-none _ _ _ (h .sub-at .result) (h .sub-at .ensures) (c .before .match .keys2))) ∙ h .before .loop .inv
 
 pub seek-out-spec : {M : Type 1} → statement M
 seek-out-spec =

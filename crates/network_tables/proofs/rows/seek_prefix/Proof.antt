@@ -1,6 +1,7 @@
 -- `network_tables::rows::seek_prefix` meets its contract. Assumes nothing.
 use borrow.Author.Needs.{needs}
-use mathlib.Core.Path.{sym, _∙_}
+use mathlib.Core.Path.{sym, ap, _∙_}
+use Rattle.network_framing.specs.Frame.{headAnswer}
 use Rattle.network_data.specs.Decode.{inner, headItems}
 use Rattle.network_tables.proofs.Seeks.{in-empty}
 use Rattle.network_tables.proofs.rows.seek_prefix.Statement.{statement}
@@ -25,14 +26,14 @@ returns : tie.Need-returns
 unfolding inner headItems
 returns c =
     let h = c .before .before .before .before in
-    c .seek-in .ensures ∙ simp (sym (h .head-at .ensures) ∙ c .before .before .at .given .1)
+    c .seek-in .ensures ∙ simp (sym (h .head-at .ensures) ∙ ap headAnswer (c .before .before .at .given .1))
 
 returns-2 : tie.Need-returns-2
 unfolding inner headItems
 returns-2 c =
     let h = c .before .before .before in
     let a = h .before .before .args in
-    c .no-rows .ensures ∙ sym (in-empty (a .ty) (a .size) (a .end)) ∙ simp (sym (h .head-at .ensures) ∙ c .before .enum-told .given .1)
+    c .no-rows .ensures ∙ sym (in-empty (a .ty) (a .size) (a .end)) ∙ simp (sym (h .head-at .ensures) ∙ ap headAnswer (c .before .enum-told .given .1))
 
 pub seek-prefix-spec : {M : Type 1} → statement M
 seek-prefix-spec =

@@ -41,7 +41,7 @@ returns c =
 returns-2 : tie.Need-returns-2
 returns-2 c =
     let f = c .before .before in
-    rest-none _ _ (f .sub-at .ensures) (c .before .match .keys2)
+    rest-none _ (f .sub-at .result) (f .sub-at .ensures) (c .before .match .keys2)
 
 pub rest-of-spec : {M : Type 1} → statement M
 rest-of-spec =

@@ -6,7 +6,7 @@ use native.Mathlib.Nat.{zero-add}
 use native.Mathlib.Omega.{arith}
 use lib.ListN.{length}
 use borrow.Author.Needs.{needs}
-use Rattle.network_framing.specs.Walk.{walkIn}
+use Rattle.network_framing.specs.Frame.{walkIn}
 use Rattle.network_walker.specs.Walker.{tallied, tlvsOf}
 use Rattle.network_walker.proofs.Shifts.{count-end, count-cut, count-item, count-less}
 use Rattle.network_walker.proofs.walker.count_all.Statement.{statement}

@@ -37,7 +37,9 @@ use denote.Triple.Table.{entered, cited}
 use denote.Triple.Walked.{says, Stays, stay-none-slice, walkOf, goes-none-slice, Walks, ends-at, walked, walk-meets}
 use denote.Exit.{yes}
 use denote.Triple.Clauses.{ensured, lasts}
-use Rattle.network_framing.specs.Frame.{subIn}
+use Rattle.network_framing.specs.Frame.{subIn, subAnswer}
+use Rattle.network_framing.specs.Tlvs.{Piece}
+use Rattle.refusal.specs.Answer.{Answer}
 use Rattle.network_walker.specs.declared.NetworkDataTlvIter.{NetworkDataTlvIter}
 use Rattle.network_framing.specs.declared.SubTlv.{SubTlv}
 use Rattle.network_walker.proofs.NetworkDataTlvIter as T
@@ -77,7 +79,7 @@ module _ {M : Type 1} (𝓤 : URA M) (H : Heap 𝓤) (A : Atoms 𝓤) (W : Given
   abbrev v : Val
   v = sliceVal (s .ptr) (length (s .now))
 
-  abbrev found : SubTlv
+  abbrev found : Answer Piece
   found = subIn (now s) 0 (length (now s))
 
   -- the struct's type as a local of a body has it
@@ -110,10 +112,10 @@ module _ {M : Type 1} (𝓤 : URA M) (H : Heap 𝓤) (A : Atoms 𝓤) (W : Given
   goes-next : (r : NetworkDataTlvIter) (u : Val) → ent 𝓤 (⋆ 𝓤 H A (‵ (B (κ, tt) .own r (u ∷ [])) ∷ (‵ (flft κ q) ⊛ ‵ ftrue) ∷ [])) (Next 𝓤 H A mem run .pre (to-next r u))
   goes-next r u = qed W (‵ (B (κ, tt) .own r (u ∷ [])) ∷ (‵ (flft κ q) ⊛ ‵ ftrue) ∷ []) ∵ nothing ! $ move ! (1 ∷ 0 ∷ []) $ fjoin ! $ move ! (1 ∷ 0 ∷ []) $ join ! $ frame ! $ done !
 
-  next-said : (r : NetworkDataTlvIter) (t : SubTlv) → ent 𝓤 (ensured 𝓤 H A item.ended (item.clauses 𝓤 H A mem run) (κ, tt) (r, tt) tt t) (fact 𝓤 (t ≡ subIn (now (r .bytes)) 0 (length (now (r .bytes)))))
-  next-said r t = exE 𝓤 _ (λ ws. snd∗ 𝓤 (sem 𝓤 H A (lasts item.ended (κ, tt) (r, tt) ws)) (fact 𝓤 (t ≡ subIn (now (r .bytes)) 0 (length (now (r .bytes))))))
+  next-said : (r : NetworkDataTlvIter) (t : SubTlv) → ent 𝓤 (ensured 𝓤 H A item.ended (item.clauses 𝓤 H A mem run) (κ, tt) (r, tt) tt t) (fact 𝓤 (subAnswer t ≡ subIn (now (r .bytes)) 0 (length (now (r .bytes)))))
+  next-said r t = exE 𝓤 _ (λ ws. snd∗ 𝓤 (sem 𝓤 H A (lasts item.ended (κ, tt) (r, tt) ws)) (fact 𝓤 (subAnswer t ≡ subIn (now (r .bytes)) 0 (length (now (r .bytes))))))
 
-  exits : (t : SubTlv) (u : Val) → t ≡ found → ent 𝓤 (⋆ 𝓤 H A (‵ (S.the-row .own t (u ∷ [])) ∷ (‵ (flft κ q) ⊛ ‵ ftrue) ∷ ‵ Own ∷ [])) (Post u)
+  exits : (t : SubTlv) (u : Val) → subAnswer t ≡ found → ent 𝓤 (⋆ 𝓤 H A (‵ (S.the-row .own t (u ∷ [])) ∷ (‵ (flft κ q) ⊛ ‵ ftrue) ∷ ‵ Own ∷ [])) (Post u)
   exits t u e =
       qed W (‵ (S.the-row .own t (u ∷ [])) ∷ (‵ (flft κ q) ⊛ ‵ ftrue) ∷ ‵ Own ∷ []) ∵
       suffices ! _ (ends-at 𝓤 H A first.ended stayed (first.clauses 𝓤 H A mem run) W (((κ, tt), (q, tt), tt, (s, tt), (v ∷ [], tt)), tt) u t (tt, tt) (tt, tt)) $ says ! e $
@@ -134,7 +136,7 @@ module _ {M : Type 1} (𝓤 : URA M) (H : Heap 𝓤) (A : Atoms 𝓤) (W : Given
         use2 W (raw (Next 𝓤 H A mem run .pre (to-next r u))) (goes-next r u) $
         calls-at ! fm (Next 𝓤 H A mem run) known-next (to-next r u) (and-then ! (load ! (from ! (stop !)) (look ! 2 refl)) (no-more !)) (λ u′.
         use1 W (later (some (λ (t : SubTlv). ((‵ (flft κ q) ⊛ ‵ ftrue) ⊛ ‵ (S.the-row .own t (u′ ∷ []))) ⊛ raw (ensured 𝓤 H A item.ended (item.clauses 𝓤 H A mem run) (κ, tt) (r, tt) tt t)))) (id⊢ 𝓤 _) $ await ! tt $ pick ! (λ t.
-        split ! $ move ! (1 ∷ []) $ use1 W (raw (fact 𝓤 (t ≡ subIn (now (r .bytes)) 0 (length (now (r .bytes)))))) (next-said r t) $ heard ! (t ≡ subIn (now (r .bytes)) 0 (length (now (r .bytes)))) (λ e′. split ! $ move ! (1 ∷ []) $
+        split ! $ move ! (1 ∷ []) $ use1 W (raw (fact 𝓤 (subAnswer t ≡ subIn (now (r .bytes)) 0 (length (now (r .bytes)))))) (next-said r t) $ heard ! (subAnswer t ≡ subIn (now (r .bytes)) 0 (length (now (r .bytes)))) (λ e′. split ! $ move ! (1 ∷ []) $
         -- [the result; the token; what s owns; _2; …; _1; …; room for _0; …]
         peeks ! S.the-row (Is S.the-row) (shows 𝓤 H A S.the-row) t (u′ ∷ []) (λ is′.
         land ! (from ! (stop !)) (init ! 7 refl (EL.lawful S.the-type S′.the-laws 𝓤 H A W tt .typed t _ is′ .0)) $
