@@ -12,7 +12,7 @@ use Rattle.refusal.specs.Answer.{Answer, given, absent}
 use Rattle.network_framing.specs.Tlvs.{Piece, bytesFor}
 use Rattle.network_framing.specs.Frame.{walkIn, headAt, headAnswer}
 use Rattle.network_framing.specs.Place.{headPlace}
-use Rattle.network_framing.proofs.Agrees.{head-agrees}
+use Rattle.network_framing.proofs.Agrees.{head-agrees, domain-is, bits-are, bytes-are}
 use Rattle.network_data.specs.Decode.{placesIn, contextAt, lastContext, headItems, inner, prefixAt, padded, optContext, entryOf}
 use Rattle.network_tables.specs.Cursor.{rows, orElse, rowsIn, rowsOut, spanOf, Whole}
 use Rattle.network_framing.specs.declared.Head.the-variants.{Inner}
@@ -170,4 +170,4 @@ module _ (s : List ℕ) (x : Span) (w : Whole s x) where
     unfolding entryOf prefixAt
     entry-is p q r t =
         let q′ : k ≡ optContext (lastContext s absent items) = sym (context-back k) ∙ ap optContext q in
-        simp (length-map, whole-inner, p, q′, r, t)
+        simp (length-map, whole-inner, domain-is s (x .start) (x .end) (w .0) (w .1), bits-are s (x .start) (x .end) (w .0) (w .1), bytes-are s (x .start) (x .end) (w .0) (w .1), p, q′, r, t)
