@@ -111,13 +111,21 @@ begins s start end =
 pub head-begins : (s : List ℕ) (start end at : ℕ) (r : Head) → headAnswer r ≡ headAt s start end → r ≡ Inner at → at ≤ end
 head-begins s start end at r told e = rw (head-agrees s start end ∙ sym told ∙ ap headAnswer e) at (begins s start end)
 
--- the inner TLVs by themselves, as the code cuts them out
-pub inner-value : (p : ℕ) (s : List ℕ) (c : Counts) (at : ℕ) (r : Head) → headAnswer r ≡ headAt s 0 (length s) → r ≡ Inner at
-    → checkIn p c (walkIn (take (length s - at) (drop at s)) 0 (length (take (length s - at) (drop at s)))) ≡ checkIn p c (walkIn s at (length s))
-inner-value p s c at r told e =
+counts-are : (d : Counts) (n h b : ℕ) → d .prefixes ≡ n → d .«has_routes» ≡ h → d .«border_routers» ≡ b → d ≡ counts n h b
+counts-are d n h b x y z =
+    ap (λ (k : ℕ). counts k (d .«has_routes») (d .«border_routers»)) x ∙ ap (λ (k : ℕ). counts n k (d .«border_routers»)) y ∙ ap (counts n h) z
+
+-- the inner TLVs by themselves, as the code cuts them out, and after one prefix more
+pub inner-value : (p : ℕ) (s : List ℕ) (at : ℕ) (r : Head) → headAnswer r ≡ headAt s 0 (length s) → r ≡ Inner at
+    → (c d : Counts) → d .prefixes ≡ c .prefixes + 1 → d .«has_routes» ≡ c .«has_routes» → d .«border_routers» ≡ c .«border_routers»
+    → checkIn p d (walkIn (take (length s - at) (drop at s)) 0 (length (take (length s - at) (drop at s))))
+    ≡ checkIn p (counts (c .prefixes + 1) (c .«has_routes») (c .«border_routers»)) (walkIn s at (length s))
+inner-value p s at r told e c d x y z =
     let h = head-begins s 0 (length s) at r told e in
     let all = take-all (length s - at) (drop at s) (simp length-drop (omega arith)) in
-    rw all (sym (ap (checkIn p c) (rest-moved s at h) ∙ in-moved p at c (walkIn (drop at s) 0 (length (drop at s)))))
+    rw all
+    (sym (ap (checkIn p d) (rest-moved s at h) ∙ in-moved p at d (walkIn (drop at s) 0 (length (drop at s))))
+    ∙ ap (λ (k : Counts). checkIn p k (walkIn s at (length s))) (counts-are d _ _ _ x y z))
 
 -- ---- a turn of a loop that walks: what is checked of s is what is checked of the TLV that r found, and then of what is left
 module _ (p : ℕ) (c : Counts) (s : List ℕ) (r : SubTlv) (found : subAnswer r ≡ subIn s 0 (length s)) (t a n : ℕ) (e : r ≡ Item t a n) (left : List ℕ) (is : left ≡ restOf s) where

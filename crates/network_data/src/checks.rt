@@ -51,17 +51,19 @@ fn joined(had: usize, len: usize, size: usize, most: usize, place: usize) -> Sum
     requires { ⌜ 0 < size ⌝ }
     ensures { λ r. ⌜ sumAnswer r ≡ join place had len size most ⌝ }
 {
-    if len % size != 0 {
+    let n = len / size;
+    let uneven = len % size != 0;
+    if uneven {
         return over(Fault::BadLength, place);
     }
-    let n = len / size;
     if n > most {
         return over(Fault::TooManyRows, place);
     }
     if had > most - n {
         return over(Fault::TooManyRows, place);
     }
-    Sum::Rows(had + n)
+    let rows = had + n;
+    Sum::Rows(rows)
 }
 
 // The rule of one inner TLV.

@@ -2,7 +2,10 @@
 -- Assumes nothing.
 use borrow.Author.Needs.{needs}
 use mathlib.Core.Path.{sym, ap, _∙_}
+use Prim.Native.Nat.{_<_, _≤_}
+use native.Mathlib.Omega.{arith}
 use borrow.Author.Tests.{le-leb, lt-leb}
+use Rattle.refusal.specs.Sizes.{mostPrefixes}
 use Rattle.network_framing.specs.Frame.{headAnswer}
 use Rattle.network_data.specs.Rules.{checkPrefix, checkHead}
 use Rattle.network_data.proofs.Moved.{inner-value, head-begins}
@@ -14,7 +17,9 @@ refuse-requires c κs = search needs
 
 returns : tie.Need-returns
 unfolding checkPrefix
-returns c = c .refuse .ensures ∙ simp (le-leb _ _ (c .before .if1 .taken))
+returns c =
+    let full : mostPrefixes ≤ c .before .before .before .args .before .prefixes = omega arith in
+    c .refuse .ensures ∙ simp (le-leb _ _ full)
 
 head-at-requires : tie.Need-head-at-requires
 head-at-requires c κs = search needs
@@ -51,16 +56,19 @@ returns-2 : tie.Need-returns-2
 unfolding checkPrefix checkHead
 returns-2 c =
     let h = c .before .before .before in
-    c .refuse2 .ensures ∙ simp (lt-leb _ _ (h .before .if1 .left), sym (h .head-at .ensures) ∙ ap headAnswer (c .before .enum-told .given .1))
+    let room : h .before .before .before .args .before .prefixes < mostPrefixes = omega arith in
+    c .refuse2 .ensures ∙ simp (lt-leb _ _ room, sym (h .head-at .ensures) ∙ ap headAnswer (c .before .enum-told .given .1))
 
 returns-3 : tie.Need-returns-3
 unfolding checkPrefix checkHead
 returns-3 c =
     let t = c .before .before .before in
     let h = t .before .before in
+    let b = h .before .before .before .args .before in
+    let room : b .prefixes < mostPrefixes = omega arith in
     c .check-inner .ensures
-    ∙ inner-value _ _ _ _ _ (h .head-at .ensures) (t .at .given .1)
-    ∙ simp (lt-leb _ _ (h .before .if1 .left), sym (h .head-at .ensures) ∙ ap headAnswer (t .at .given .1))
+    ∙ inner-value _ _ _ _ (h .head-at .ensures) (t .at .given .1) b _ (omega arith) (omega arith) (omega arith)
+    ∙ simp (lt-leb _ _ room, sym (h .head-at .ensures) ∙ ap headAnswer (t .at .given .1))
 
 pub check-prefix-spec : {M : Type 1} → statement M
 check-prefix-spec =
