@@ -17,6 +17,7 @@ use Rattle.network_framing.specs.Frame.{part, among, subIn, innerOf, headAt, wa
 use Rattle.network_framing.specs.Place.{subPlace}
 use Rattle.network_framing.proofs.Agrees.{sub-agrees}
 use Rattle.network_walker.specs.Walker.{after, restOf, Tlv, Came, came, tlv, finds, comesBy, tlvAt, cameOf}
+use Rattle.network_walker.proofs.Rests.{rest-item}
 use Rattle.network_framing.specs.declared.SubTlv.{SubTlv}
 use Rattle.network_framing.specs.declared.SubTlv.the-variants.{Item, Cut, End}
 use Rattle.network_framing.proofs.Walks.{drop-part, walk-end, turn-end, turn-cut, turn-item, turn-inside}
@@ -166,8 +167,7 @@ walker-over s found k = ap (λ (x : Answer Piece). comesBy k (after s x)) (sym f
 -- ---- a turn of a loop that walks: what is left after the TLV that r found
 module _ (s : List ℕ) (r : SubTlv) (found : subAnswer r ≡ subIn s 0 (length s)) (t a n : ℕ) (e : r ≡ Item t a n) (left : List ℕ) (is : left ≡ restOf s) where
   pub left-is : left ≡ drop (a + n) s
-  unfolding restOf after
-  left-is = is ∙ ap (after s) (sym found ∙ ap subAnswer e)
+  left-is = is ∙ rest-item s r found t a n e
 
   pub left-less : length left < length s
   left-less =
