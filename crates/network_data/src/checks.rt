@@ -7,12 +7,12 @@ use crate::MAX_PREFIXES;
 use network_framing::Head;
 use network_framing::SubTlv;
 use network_framing::head_at;
-use network_framing::sub_at;
-use network_framing::sub_in;
+use network_walker::after_first;
+use network_walker::first_tlv;
 use refusal::Fault;
 use refusal::Refusal;
 ghost use mathlib.Core.Path.{_≡_};
-ghost use Prim.Native.Nat.{_≤_, _<_};
+ghost use Prim.Native.Nat.{_<_};
 ghost use lib.ListN.{length};
 ghost use Rattle.refusal.specs.Answer.{refused};
 ghost use Rattle.refusal.specs.Number.{faultNumber};
@@ -51,17 +51,19 @@ fn joined(had: usize, len: usize, size: usize, most: usize, place: usize) -> Sum
     requires { ⌜ 0 < size ⌝ }
     ensures { λ r. ⌜ sumAnswer r ≡ join place had len size most ⌝ }
 {
-    if len % size != 0 {
+    let n = len / size;
+    let uneven = len % size != 0;
+    if uneven {
         return over(Fault::BadLength, place);
     }
-    let n = len / size;
     if n > most {
         return over(Fault::TooManyRows, place);
     }
     if had > most - n {
         return over(Fault::TooManyRows, place);
     }
-    Sum::Rows(had + n)
+    let rows = had + n;
+    Sum::Rows(rows)
 }
 
 // The rule of one inner TLV.
@@ -104,23 +106,23 @@ fn inner_rule(c: Counts, ty: u8, len: usize, place: usize) -> Checked
     Checked::Counted(c)
 }
 
-// The inner TLVs from a place on, to the end of their prefix.
-fn check_inner(s: &[u8], from: usize, end: usize, before: Counts, place: usize) -> Checked
-    requires { ⌜ end ≤ length (now s) ⌝ }
-    ensures { λ r. ⌜ checkedAnswer r ≡ checkIn place before (walkIn (now (s .entry)) from end) ⌝ }
+// The inner TLVs of a prefix, in wire order.
+fn check_inner(s: &[u8], before: Counts, place: usize) -> Checked
+    ensures { λ r. ⌜ checkedAnswer r ≡ checkIn place before (walkIn (now (s .entry)) 0 (length (now (s .entry)))) ⌝ }
 {
-    let mut at = from;
+    let mut rest = s;
     let mut c = before;
     loop {
-        match sub_in(s, at, end) {
+        match first_tlv(rest) {
             SubTlv::End => {
                 return Checked::Counted(c);
             }
             SubTlv::Cut => {
                 return refuse(Fault::ItemCut, place);
             }
-            SubTlv::Item { ty, start, len } => {
-                at = start + len;
+            SubTlv::Item { ty, start: _, len } => {
+                let left = after_first(rest);
+                rest = left;
                 match inner_rule(c, ty, len, place) {
                     Checked::Counted(d) => {
                         c = d;
@@ -134,16 +136,15 @@ fn check_inner(s: &[u8], from: usize, end: usize, before: Counts, place: usize) 
     }
 }
 
-// A prefix, whose value stands from start to end.
-fn check_prefix(s: &[u8], start: usize, end: usize, before: Counts, place: usize) -> Checked
-    requires { ⌜ end ≤ length (now s) ⌝ }
-    ensures { λ r. ⌜ checkedAnswer r ≡ checkPrefix place (now (s .entry)) before start end ⌝ }
+// A prefix, by its value.
+fn check_prefix(value: &[u8], before: Counts, place: usize) -> Checked
+    ensures { λ r. ⌜ checkedAnswer r ≡ checkPrefix place (now (value .entry)) before 0 (length (now (value .entry))) ⌝ }
 {
     let n = before.prefixes;
     if n >= MAX_PREFIXES {
         return refuse(Fault::TooManyRows, place);
     }
-    match head_at(s, start, end) {
+    match head_at(value, 0, value.len()) {
         Head::Short => refuse(Fault::ItemCut, place),
         Head::Inner(at) => {
             let c = Counts {
@@ -151,7 +152,7 @@ fn check_prefix(s: &[u8], start: usize, end: usize, before: Counts, place: usize
                 has_routes: before.has_routes,
                 border_routers: before.border_routers,
             };
-            check_inner(s, at, end, c, place)
+            check_inner(&value[at..], c, place)
         }
     }
 }
@@ -160,20 +161,22 @@ fn check_prefix(s: &[u8], start: usize, end: usize, before: Counts, place: usize
 pub(crate) fn check_items(s: &[u8], place: usize) -> Checked
     ensures { λ r. ⌜ checkedAnswer r ≡ checkValue place (now (s .entry)) ⌝ }
 {
-    let mut at: usize = 0;
+    let mut rest = s;
     let mut c = Counts {
         prefixes: 0,
         has_routes: 0,
         border_routers: 0,
     };
     loop {
-        match sub_at(s, at) {
+        match first_tlv(rest) {
             SubTlv::End => return Checked::Counted(c),
             SubTlv::Cut => return refuse(Fault::ItemCut, place),
             SubTlv::Item { ty, start, len } => {
-                at = start + len;
+                let value = &rest[start..start + len];
+                let left = after_first(rest);
+                rest = left;
                 if ty == 1 {
-                    match check_prefix(s, start, at, c, place) {
+                    match check_prefix(value, c, place) {
                         Checked::Counted(d) => {
                             c = d;
                         }
