@@ -1,9 +1,15 @@
 // The refusals of a Network Data value: the first that is met in wire order, and the counts of what is passed.
+use crate::BORDER_ROUTER_ENTRY_LEN;
 use crate::Checked;
 use crate::Counts;
+use crate::HAS_ROUTE_ENTRY_LEN;
 use crate::MAX_BORDER_ROUTERS;
 use crate::MAX_HAS_ROUTES;
 use crate::MAX_PREFIXES;
+use crate::NETWORK_DATA_6LOWPAN_CONTEXT;
+use crate::NETWORK_DATA_BORDER_ROUTER;
+use crate::NETWORK_DATA_HAS_ROUTE;
+use crate::NETWORK_DATA_PREFIX;
 use network_framing::Head;
 use network_framing::SubTlv;
 use network_framing::head_at;
@@ -70,8 +76,14 @@ fn joined(had: usize, len: usize, size: usize, most: usize, place: usize) -> Sum
 fn inner_rule(c: Counts, ty: u8, len: usize, place: usize) -> Checked
     ensures { λ r. ⌜ checkedAnswer r ≡ rule place c ty len ⌝ }
 {
-    if ty == 0 {
-        match joined(c.has_routes, len, 3, MAX_HAS_ROUTES, place) {
+    if ty == NETWORK_DATA_HAS_ROUTE {
+        match joined(
+            c.has_routes,
+            len,
+            HAS_ROUTE_ENTRY_LEN,
+            MAX_HAS_ROUTES,
+            place,
+        ) {
             Sum::Rows(n) => {
                 return Checked::Counted(Counts {
                     prefixes: c.prefixes,
@@ -84,8 +96,14 @@ fn inner_rule(c: Counts, ty: u8, len: usize, place: usize) -> Checked
             }
         }
     }
-    if ty == 2 {
-        match joined(c.border_routers, len, 4, MAX_BORDER_ROUTERS, place) {
+    if ty == NETWORK_DATA_BORDER_ROUTER {
+        match joined(
+            c.border_routers,
+            len,
+            BORDER_ROUTER_ENTRY_LEN,
+            MAX_BORDER_ROUTERS,
+            place,
+        ) {
             Sum::Rows(n) => {
                 return Checked::Counted(Counts {
                     prefixes: c.prefixes,
@@ -98,7 +116,7 @@ fn inner_rule(c: Counts, ty: u8, len: usize, place: usize) -> Checked
             }
         }
     }
-    if ty == 3 {
+    if ty == NETWORK_DATA_6LOWPAN_CONTEXT {
         if len != 2 {
             return refuse(Fault::BadLength, place);
         }
@@ -175,7 +193,7 @@ pub(crate) fn check_items(s: &[u8], place: usize) -> Checked
                 let value = &rest[start..start + len];
                 let left = after_first(rest);
                 rest = left;
-                if ty == 1 {
+                if ty == NETWORK_DATA_PREFIX {
                     match check_prefix(value, c, place) {
                         Checked::Counted(d) => {
                             c = d;

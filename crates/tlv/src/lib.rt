@@ -2,7 +2,9 @@
 use refusal::Fault;
 use refusal::Refusal;
 ghost use mathlib.Core.Path.{_≡_};
-ghost use Rattle.tlv.specs.Entries.{first};
+ghost use mathlib.Core.List.{[], _∷_};
+ghost use Rattle.refusal.specs.Sizes.{mostShort, mostValue};
+ghost use Rattle.tlv.specs.Entries.{marker, first};
 ghost use Rattle.tlv.specs.Limits.{count};
 ghost use Rattle.tlv.specs.Place.{frameAt};
 ghost use Rattle.tlv.specs.Answers.{countedAnswer, parsedAnswer, headOf};
@@ -13,6 +15,19 @@ pub const MAX_STANDARD_TLV_LENGTH: usize = 254;
 pub const EXTENDED_TLV_MARKER: u8 = 255;
 
 pub const MAX_EXTENDED_TLV_LENGTH: usize = 65535;
+
+// The public constants, held to their numbers.
+fn constants() -> [usize; 2]
+    ensures { λ r. ⌜ r ≡ mostShort ∷ mostValue ∷ [] ⌝ }
+{
+    [MAX_STANDARD_TLV_LENGTH, MAX_EXTENDED_TLV_LENGTH]
+}
+
+fn byte_constants() -> [u8; 1]
+    ensures { λ r. ⌜ r ≡ marker ∷ [] ⌝ }
+{
+    [EXTENDED_TLV_MARKER]
+}
 
 // What stands at a place: an entry, whose value is the len bytes from start on; an entry that is cut short; or nothing.
 pub enum Frame {
