@@ -22,7 +22,7 @@ seek-in-requires c κs = search needs
 returns-2 : tie.Need-returns-2
 returns-2 c =
     let k = c .before .before in
-    next-same _ _ _ _ (k .before .if1 .left) _ (k .seek-in .ensures) (c .if2 .taken)
+    next-same _ _ _ (k .before .before .before .args .c) (k .before .if1 .left) _ (k .seek-in .ensures) (c .if2 .taken)
 
 seek-out-requires : tie.Need-seek-out-requires
 seek-out-requires c κs = search needs
@@ -31,7 +31,7 @@ returns-3 : tie.Need-returns-3
 returns-3 c =
     let e = c .before in
     let k = e .before .before in
-    next-later _ _ _ _ (k .before .if1 .left) _ (k .seek-in .ensures) (e .if2 .left) _ (c .seek-out .ensures)
+    next-later _ _ _ (k .before .before .before .args .c) (k .before .if1 .left) _ (k .seek-in .ensures) (e .if2 .left) _ (c .seek-out .ensures)
 
 pub next-row-spec : {M : Type 1} → statement M
 next-row-spec =
