@@ -125,3 +125,26 @@ sub-is s at end r e = ap subAnswer e ∙ sub-agrees s at end
 
 pub head-is : (s : List ℕ) (start end : ℕ) (r : Head) → r ≡ headPlace s start end → headAnswer r ≡ headAt s start end
 head-is s start end r e = ap headAnswer e ∙ head-agrees s start end
+
+-- the same for numbers that are equal to those of the definition, however the code comes by them
+module _ (s : List ℕ) (at end : ℕ) (less : at < end) (room : end ≤ length s) (two : 2 ≤ end - at) where
+  module _ (n : ℕ) (long : n ≡ getD s (at + 1) 0) where
+    pub sub-item : (t a : ℕ) → t ≡ getD s at 0 / 2 → a ≡ at + 2 → n ≤ end - (at + 2) → subAnswer (Item t a n) ≡ subIn s at end
+    unfolding subPlace
+    sub-item t a ty start fits =
+        sub-is s at end (Item t a n)
+        (rw (ty, start, long) (simp (lt-leb _ _ less, le-ltb _ _ room, le-ltb _ _ two, le-leb _ _ (rw long at fits))))
+
+    pub sub-cut : end - (at + 2) < n → subAnswer Cut ≡ subIn s at end
+    unfolding subPlace
+    sub-cut over = sub-is s at end Cut (simp (lt-leb _ _ less, le-ltb _ _ room, le-ltb _ _ two, lt-leb _ _ (rw long at over)))
+
+  module _ (n : ℕ) (own : n ≡ 2 + bytesFor (getD s (at + 1) 0)) where
+    pub head-inner : (a : ℕ) → a ≡ at + n → n ≤ end - at → headAnswer (Inner a) ≡ headAt s at end
+    unfolding headPlace
+    head-inner a start fits =
+        head-is s at end (Inner a) (rw (start, own) (simp (lt-leb _ _ less, le-ltb _ _ room, le-ltb _ _ two, le-ltb _ _ (rw own at fits))))
+
+    pub head-short : end - at < n → headAnswer Short ≡ headAt s at end
+    unfolding headPlace
+    head-short over = head-is s at end Short (simp (lt-leb _ _ less, le-ltb _ _ room, le-ltb _ _ two, lt-ltb _ _ (rw own at over)))
