@@ -42,7 +42,7 @@ fn listed(score: Score, input: &[u8], stated: &[u8]) -> Score {
     let mut text = empty();
     let mut out = empty();
     let word = put(&mut text, 0, input);
-    let said = put(&mut text, word, b" gives: ");
+    let said = put(&mut text, word, b" gives:\n");
     let written = listing::report_text(input, &mut out);
     let end = put_listing(&mut text, said, written, &out);
     judge(score, &mut text, said, end, stated)
@@ -59,6 +59,6 @@ pub(crate) fn lines(score: Score) -> Score {
     s = ran(s, fold, dataset, b"07 00 03 01 41 00 01 02");
     // "`53 45 03 01 41 52 4D 03` folds to `52 4D 03`."
     s = folded(s, b"\x53\x45\x03\x01\x41\x52\x4D\x03", b"52 4D 03");
-    // the listing program: "`03ff0001410700` gives" three lines, whose ends are shown as bars
-    listed(s, b"03ff0001410700", b"entries 2|3 1|7 0|")
+    // the listing program: "`03ff0001410700` gives"
+    listed(s, b"03ff0001410700", b"entries 2\n3 1\n7 0\n")
 }

@@ -33,15 +33,15 @@ pub(crate) fn put_written(text: &mut Room, at: usize, written: Written, out: &Ro
 
 fn put_verdict(text: &mut Room, at: usize, good: bool, stated: &[u8]) -> usize {
     if good {
-        return put(text, at, b", as stated");
+        return put(text, at, b", as stated\n");
     }
     let word = put(text, at, b", NOT as stated: ");
-    put(text, word, stated)
+    let end = put(text, word, stated);
+    put(text, end, b"\n")
 }
 
 fn print(text: &Room, end: usize) {
     io::write_all(1, part_of(text, 0, end));
-    io::write_all(1, b"\n");
 }
 
 // Ends a line, whose text from start up to end is what was got, and prints it.
@@ -73,6 +73,6 @@ pub(crate) fn total(score: Score) {
     let mut text = empty();
     let good = put_number(&mut text, 0, b"", score.good);
     let lines = put_number(&mut text, good, b" of ", score.lines);
-    let last = put(&mut text, lines, b" lines as stated");
+    let last = put(&mut text, lines, b" lines as stated\n");
     print(&text, last);
 }

@@ -42,16 +42,11 @@ fn put_byte(text: &mut Room, at: usize, b: u8) -> usize {
     at
 }
 
-// A newline is shown as a bar, so that a line stays one.
-fn shown(b: u8) -> u8 {
-    if b == b'\n' { b'|' } else { b }
-}
-
 pub(crate) fn put(text: &mut Room, at: usize, s: &[u8]) -> usize {
     let mut next = at;
     let mut i = 0;
     while i < s.len() {
-        next = put_byte(text, next, shown(s[i]));
+        next = put_byte(text, next, s[i]);
         i += 1;
     }
     next
