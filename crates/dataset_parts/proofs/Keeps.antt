@@ -14,23 +14,24 @@ use Rattle.refusal.specs.Answer.{Answer, given, absent, refused, thenDo, onGive
 use Rattle.refusal.specs.Number.{refusalAnswer}
 use Rattle.refusal.specs.declared.Refusal.{Refusal}
 use Rattle.tlv.specs.Entries.{Entry, entry}
-use Rattle.tlv_last.specs.Last.{lastEntry, spotAt, spot, lastSpot, valueOr, lastValue}
+use Rattle.tlv_last.specs.Last.{lastEntry, Spot, spotAt, spot, lastSpot, valueOr, lastValue}
 use Rattle.tlv_last.specs.Answers.{foundAnswer}
 use Rattle.tlv_last.specs.declared.Found.{Found}
 use Rattle.tlv_last.specs.declared.Found.the-variants as f
 use Rattle.tlv_last.proofs.Found
 use Rattle.tlv_last.proofs.Lasts.{spot-part}
-use Rattle.channel_masks.specs.Mask.{items, maskAnswer}
-use Rattle.channel_masks.specs.declared.ReadMask.{ReadMask}
-use Rattle.channel_masks.specs.declared.ReadMask.the-variants as m
-use Rattle.channel_masks.proofs.ReadMask
+use Rattle.channel_masks.specs.Mask.{Masked, items}
+use Rattle.laws.proofs.Parts.{length-part}
 use Rattle.plain_values.specs.Plain.{nameAt, checkedAnswer, checked}
 use Rattle.plain_values.specs.declared.Checked.{Checked}
 use Rattle.plain_values.specs.declared.Checked.the-variants as c
 use Rattle.plain_values.proofs.Checked
 use Rattle.plain_values.proofs.Names.{name-there}
-use Rattle.dataset_parts.specs.Parts.{nameEntry, maskEntry, maskCount}
-use Rattle.dataset.proofs.Finds.{found}
+use Rattle.dataset_parts.specs.Parts.{nameEntry, MaskSpot, maskAt, maskEntry, maskSpot, foundMaskAnswer}
+use Rattle.dataset_parts.specs.declared.FoundMask.{FoundMask}
+use Rattle.dataset_parts.specs.declared.FoundMask.the-variants as m
+use Rattle.dataset_parts.proofs.FoundMask
+use Rattle.dataset.proofs.Finds.{found-inside, found}
 
 isGiven : {A : Type 0} → Answer A → Bool
 isGiven (given x) = true
@@ -69,12 +70,6 @@ module _ {A : Type 0} (g : Entry → Answer A) where
       one (refused n p i) k = absurd (let z : _≡_ {A = ℕ} 0 1 = cc in omega arith)
   keep-is absent h = refl
   keep-is (refused n p i) h = refl
-
-  keep-kind : {B : Type 0} (h : A → B) (x : Answer Entry) → isGiven (thenDo x (λ (e : Entry). onGiven h (g e))) ≡ isGiven (keep x g)
-  unfolding isGiven
-  keep-kind h (given e) = on-given h (g e) ∙ sym (on-given _ (g e))
-  keep-kind h absent = refl
-  keep-kind h (refused n p i) = refl
 
 -- ---- the network name
 
@@ -126,23 +121,70 @@ module _ (s : List ℕ) where
     pub name-none : OneOf (1 ∷ 2 ∷ []) (tagOf Found.the-type r) → [] ≡ valueOr (nameEntry s)
     name-none k = no-value (nameEntry s) (sym (on-given spot (nameEntry s)) ∙ ap isGiven (sym says) ∙ not-found r k)
 
--- ---- the channel mask: what the caller of `channel_mask` learns
-not-items : (r : ReadMask) → OneOf (1 ∷ 2 ∷ []) (tagOf ReadMask.the-type r) → isGiven (maskAnswer r) ≡ false
+-- ---- the channel mask
+
+not-mask : (r : FoundMask) → OneOf (1 ∷ 2 ∷ []) (tagOf FoundMask.the-type r) → isGiven (foundMaskAnswer r) ≡ false
 unfolding isGiven
-not-items (m.Items n) k = ⊎-elim (λ e. absurd (omega arith)) (λ e. absurd (omega arith)) k
-not-items m.Absent k = refl
-not-items (m.Refused q) k = refl
+not-mask (m.At p a n k) tag = ⊎-elim (λ e. absurd (omega arith)) (λ e. absurd (omega arith)) tag
+not-mask m.Absent tag = refl
+not-mask (m.Refused q) tag = refl
 
-module _ (s : List ℕ) (r : ReadMask) (says : maskAnswer r ≡ maskCount s) where
-  mask-kind : isGiven (maskEntry s) ≡ isGiven (maskAnswer r)
-  unfolding maskEntry maskCount
-  mask-kind = sym (ap isGiven says ∙ keep-kind (λ (e : Entry). items (e .place) (e .value)) length (lastEntry 53 0 s))
+-- the spot of an entry whose items are counted, from the count
+counted-mask : (p a n : ℕ) (a′ : Answer (List Masked)) (x : Answer ℕ) → x ≡ onGiven length a′
+    → onGiven (maskAt p a n) x ≡ onGiven (λ (is : List Masked). maskAt p a n (length is)) a′
+counted-mask p a n (given is) x told = ap (onGiven (maskAt p a n)) told
+counted-mask p a n absent x told = ap (onGiven (maskAt p a n)) told
+counted-mask p a n (refused u v w) x told = ap (onGiven (maskAt p a n)) told
 
-  pub mask-value : (n : ℕ) → r ≡ m.Items n → lastValue 53 s ≡ valueOr (maskEntry s)
-  unfolding isGiven maskEntry lastValue
-  mask-value n is =
-      let there = mask-kind ∙ ap (λ (q : ReadMask). isGiven (maskAnswer q)) is in
-      sym (ap valueOr (keep-is (λ (e : Entry). items (e .place) (e .value)) (lastEntry 53 0 s) there))
+module _ (s : List ℕ) where
+  -- what `channel_mask` learns of `count_mask_items`
+  module _ (r : Found) (says : foundAnswer r ≡ lastSpot 53 0 s) (p a n : ℕ) (is : r ≡ f.At p a n) where
+    pub mask-told : (x : Answer ℕ) → x ≡ onGiven length (items p (take n (drop a s))) → onGiven (maskAt p a n) x ≡ maskSpot s
+    unfolding maskSpot
+    mask-told x told =
+        let size : length (take n (drop a s)) ≡ n = length-part s a n (found-inside 53 s r says p a n is) in
+        counted-mask p a n (items p (take n (drop a s))) x told
+        ∙ rw (found 53 s r says p a n is .is, size)
 
-  pub mask-none : OneOf (1 ∷ 2 ∷ []) (tagOf ReadMask.the-type r) → [] ≡ valueOr (maskEntry s)
-  mask-none k = no-value (maskEntry s) (mask-kind ∙ not-items r k)
+  mask-is : isGiven (maskEntry s) ≡ true → maskEntry s ≡ lastEntry 53 0 s
+  unfolding maskEntry
+  mask-is h = keep-is (λ (e : Entry). items (e .place) (e .value)) (lastEntry 53 0 s) h
+
+  -- what the caller of `channel_mask` learns
+  abbrev spot-of : MaskSpot → Spot
+  spot-of x = spotAt (x .place) (x .start) (x .len)
+
+  mask-spot : onGiven spot-of (maskSpot s) ≡ onGiven spot (maskEntry s)
+  unfolding maskSpot maskEntry
+  mask-spot = both (lastEntry 53 0 s)
+    where
+      one : (e : Entry) (x : Answer (List Masked))
+          → onGiven spot-of (onGiven (λ (is : List Masked). maskAt (e .place) (e .start) (length (e .value)) (length is)) x)
+          ≡ onGiven spot (onGiven (λ (is : List Masked). e) x)
+      one e (given is) = refl
+      one e absent = refl
+      one e (refused u v w) = refl
+
+      both : (x : Answer Entry)
+          → onGiven spot-of
+          (thenDo x (λ (e : Entry). onGiven (λ (is : List Masked). maskAt (e .place) (e .start) (length (e .value)) (length is)) (items (e .place) (e .value))))
+          ≡ onGiven spot (thenDo x (λ (e : Entry). onGiven (λ (is : List Masked). e) (items (e .place) (e .value))))
+      both (given e) = one e (items (e .place) (e .value))
+      both absent = refl
+      both (refused u v w) = refl
+
+  module _ (r : FoundMask) (says : foundMaskAnswer r ≡ maskSpot s) where
+    mask-kind : isGiven (maskEntry s) ≡ isGiven (foundMaskAnswer r)
+    mask-kind = sym (on-given spot (maskEntry s)) ∙ ap isGiven (sym mask-spot) ∙ on-given spot-of (maskSpot s) ∙ ap isGiven (sym says)
+
+    pub mask-part : (p a n k : ℕ) → r ≡ m.At p a n k → (a + n ≤ length s) × (take n (drop a s) ≡ valueOr (maskEntry s))
+    unfolding isGiven lastSpot lastValue
+    mask-part p a n k is =
+        let there = mask-kind ∙ ap (λ (q : FoundMask). isGiven (foundMaskAnswer q)) is in
+        let same = mask-is there in
+        let told = ap (onGiven spot-of) (sym (ap foundMaskAnswer is) ∙ says) ∙ mask-spot ∙ ap (onGiven spot) same in
+        let part = spot-part s 53 p a n told in
+        (part .0, part .1 ∙ ap valueOr (sym same))
+
+    pub mask-none : OneOf (1 ∷ 2 ∷ []) (tagOf FoundMask.the-type r) → [] ≡ valueOr (maskEntry s)
+    mask-none tag = no-value (maskEntry s) (mask-kind ∙ not-mask r tag)

@@ -2,17 +2,36 @@
 use channel_masks::ReadMask;
 use plain_values::Checked;
 use plain_values::check_name;
+use refusal::Refusal;
 use tlv_last::Found;
 ghost use mathlib.Core.Path.{_≡_};
 ghost use Rattle.refusal.specs.Answer.{onGiven};
 ghost use Rattle.tlv_last.specs.Last.{spot, valueOr};
 ghost use Rattle.tlv_last.specs.Answers.{foundAnswer};
-ghost use Rattle.channel_masks.specs.Mask.{maskAnswer};
-ghost use Rattle.dataset_parts.specs.Parts.{nameEntry, maskEntry, maskCount};
+ghost use Rattle.dataset_parts.specs.Parts.{partTypes, nameEntry, maskEntry, maskSpot, foundMaskAnswer};
 
 pub const TLV_NETWORK_NAME: u8 = 0x03;
 
 pub const TLV_CHANNEL_MASK: u8 = 0x35;
+
+// The public constants, held to their numbers.
+fn constants() -> [u8; 2]
+    ensures { λ r. ⌜ r ≡ partTypes ⌝ }
+{
+    [TLV_NETWORK_NAME, TLV_CHANNEL_MASK]
+}
+
+// Where a channel mask lies, and how many items it has.
+pub enum FoundMask {
+    At {
+        place: usize,
+        start: usize,
+        len: usize,
+        items: usize,
+    },
+    Absent,
+    Refused(Refusal),
+}
 
 // Where the network name lies. Refusals: 1, 2, 3, then 6 at its entry.
 pub fn network_name(s: &[u8]) -> Found
@@ -49,17 +68,30 @@ pub fn network_name_value<'a>(s: &'a [u8]) -> &'a [u8]
     }
 }
 
-// How many items the channel mask has. Refusals: 1, 2, 3, then 5 at its entry.
-pub fn channel_mask(s: &[u8]) -> ReadMask
-    ensures { λ r. ⌜ maskAnswer r ≡ maskCount (now (s .entry)) ⌝ }
+// Where the channel mask lies, and how many items it has. Refusals: 1, 2, 3, then 5 at its entry.
+pub fn channel_mask(s: &[u8]) -> FoundMask
+    ensures { λ r. ⌜ foundMaskAnswer r ≡ maskSpot (now (s .entry)) ⌝ }
 {
     match tlv_last::last_entry(s, TLV_CHANNEL_MASK, 0) {
-        Found::At { place, start, len } => channel_masks::count_mask_items(
-            &s[start..start + len],
-            place,
-        ),
-        Found::Absent => ReadMask::Absent,
-        Found::Refused(r) => ReadMask::Refused(r),
+        Found::At {
+            place: at,
+            start: from,
+            len: n,
+        } => {
+            let end = from + n;
+            match channel_masks::count_mask_items(&s[from..end], at) {
+                ReadMask::Items(count) => FoundMask::At {
+                    place: at,
+                    start: from,
+                    len: n,
+                    items: count,
+                },
+                ReadMask::Absent => FoundMask::Absent,
+                ReadMask::Refused(r) => FoundMask::Refused(r),
+            }
+        }
+        Found::Absent => FoundMask::Absent,
+        Found::Refused(r) => FoundMask::Refused(r),
     }
 }
 
@@ -68,7 +100,12 @@ pub fn channel_mask_value<'a>(s: &'a [u8]) -> &'a [u8]
     ensures { λ r. ⌜ now r ≡ valueOr (maskEntry (now (s .entry))) ⌝ }
 {
     match channel_mask(s) {
-        ReadMask::Items(_) => tlv_last::last_value(s, TLV_CHANNEL_MASK),
+        FoundMask::At {
+            place: _,
+            start,
+            len: n,
+            items: _,
+        } => &s[start..start + n],
         _ => &s[..0],
     }
 }

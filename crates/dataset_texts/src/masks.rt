@@ -1,6 +1,7 @@
 // The text of a channel mask: how many items, then page and bytes of each.
 use channel_masks::MaskItem;
 use channel_masks::ReadMask;
+use dataset_parts::FoundMask;
 use texts::Room;
 use texts::part_of;
 use texts::put_absent;
@@ -41,5 +42,19 @@ pub(crate) fn put_mask(text: &mut Room, at: usize, count: ReadMask, value: &[u8]
         }
         ReadMask::Absent => put_absent(text, at),
         ReadMask::Refused(r) => put_refusal(text, at, r),
+    }
+}
+
+// The mask of a dataset, as one by itself.
+pub(crate) fn put_found_mask(text: &mut Room, at: usize, found: FoundMask, value: &[u8]) -> usize {
+    match found {
+        FoundMask::At {
+            place: _,
+            start: _,
+            len: _,
+            items,
+        } => put_mask(text, at, ReadMask::Items(items), value),
+        FoundMask::Absent => put_absent(text, at),
+        FoundMask::Refused(r) => put_refusal(text, at, r),
     }
 }

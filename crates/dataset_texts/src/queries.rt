@@ -1,4 +1,5 @@
 // Typed queries of a dataset, `q.KIND`, and the same of a bare value, `v.KIND`.
+use crate::masks::put_found_mask;
 use crate::masks::put_mask;
 use crate::times::time_texts;
 use crate::typed::put_array_8;
@@ -62,7 +63,7 @@ fn byte_queries(request: &Room, v: Values, text: &mut Room, at: usize) -> usize 
         return put_found(text, at, dataset_raw::pskc(s), dataset_raw::pskc_value(s));
     }
     if asks(request, b"q.mask b") {
-        return put_mask(text, at, channel_mask(s), channel_mask_value(s));
+        return put_found_mask(text, at, channel_mask(s), channel_mask_value(s));
     }
     number_values(request, v, text, at)
 }

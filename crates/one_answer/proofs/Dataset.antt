@@ -2,7 +2,7 @@
 -- Assumes nothing.
 use denote.Ref.{now}
 use mathlib.Core.Path.{_∙_, refl, sym}
-use Rattle.channel_masks.proofs.Papers.{mask-tells}
+use Rattle.dataset_parts.proofs.Papers.{found-mask-tells}
 use Rattle.plain_values.proofs.Papers.{copy16-tells, copy8-tells}
 use Rattle.timestamps.proofs.Papers.{timestamp-tells}
 use Rattle.tlv_last.proofs.Papers.{found-tells}
@@ -73,7 +73,7 @@ network-key x r q left over = both (x .𝓤) _ _ _ (λ e f. (copy16-tells r q (e
 
 -- dataset_parts::channel_mask
 pub channel-mask : One Rattle.dataset_parts.proofs.channel_mask.ended (λ M. Rattle.dataset_parts.proofs.channel_mask.clauses)
-channel-mask x r q left over = both (x .𝓤) _ _ _ (λ e f. (mask-tells r q (e ∙ sym f), refl))
+channel-mask x r q left over = both (x .𝓤) _ _ _ (λ e f. (found-mask-tells r q (e ∙ sym f), refl))
 
 -- dataset_parts::channel_mask_value
 pub channel-mask-value : OneBy Rattle.dataset_parts.proofs.channel_mask_value.ended (λ κs r. now r) (λ M. Rattle.dataset_parts.proofs.channel_mask_value.clauses)

@@ -1,7 +1,8 @@
--- `dataset_parts::channel_mask_value` meets its contract: the mask is the last value of its type where its items are whole.
+-- `dataset_parts::channel_mask_value` meets its contract: the mask that is found is a part of the input.
 -- Assumes nothing.
-use mathlib.Core.Path.{_∙_}
-use Rattle.dataset_parts.proofs.Keeps.{mask-value, mask-none}
+use native.Mathlib.Omega.{arith}
+use native.Mathlib.Nat.{add-sub-cancel, add-sub-cancel-left}
+use Rattle.dataset_parts.proofs.Keeps.{mask-part, mask-none}
 use borrow.Author.Needs.{needs}
 use Rattle.dataset_parts.proofs.channel_mask_value.Statement.{statement}
 use Rattle.dataset_parts.proofs.channel_mask_value.Tie as tie
@@ -9,17 +10,28 @@ use Rattle.dataset_parts.proofs.channel_mask_value.Tie as tie
 channel-mask-requires : tie.Need-channel-mask-requires
 channel-mask-requires c κs = search needs
 
-enum-told : tie.Need-enum-told
-enum-told c = search needs
+enum-known-start : tie.Need-enum-known-start
+enum-known-start c = search needs
 
-last-value-requires : tie.Need-last-value-requires
-last-value-requires c κs = search needs
+add-result : tie.Need-add-result
+add-result c = omega (arith, mask-part _ _ (c .before .before .before .channel-mask .ensures) _ _ _ _ (c .before .start .given .1))
+
+sub-result : tie.Need-sub-result
+sub-result c = omega arith
+
+part-result-start : tie.Need-part-result-start
+part-result-start c = omega arith
+
+part-result-end : tie.Need-part-result-end
+part-result-end c = omega (arith, mask-part _ _ (c .before .before .before .channel-mask .ensures) _ _ _ _ (c .before .start .given .1))
 
 slice-aggregate-result : tie.Need-slice-aggregate-result
 slice-aggregate-result c = search needs
 
 returns : tie.Need-returns
-returns c = c .last-value .ensures ∙ mask-value _ _ (c .before .before .before .channel-mask .ensures) _ (c .before .enum-told .given .1)
+returns c =
+    let t = c .before .before in
+    simp (add-sub-cancel, add-sub-cancel-left) (mask-part _ _ (t .before .before .channel-mask .ensures) _ _ _ _ (t .start .given .1) .1)
 
 returns-2 : tie.Need-returns-2
 returns-2 c =
@@ -31,8 +43,11 @@ channel-mask-value-spec =
     tie.close
     (tie.spec
     channel-mask-requires
-    enum-told
-    last-value-requires
+    enum-known-start
+    add-result
+    sub-result
+    part-result-start
+    part-result-end
     slice-aggregate-result
     returns
     returns-2)
