@@ -11,7 +11,7 @@ use Rattle.laws.proofs.Tests.{pick-all}
 use Rattle.network_data.specs.Decode.{Prefix, decodeNetworkData, allRoutes, allBorders, countsOf, entryOf}
 use Rattle.refusal.specs.Numbered.{nth}
 use Rattle.network_plans.specs.Planned.{roomFor}
-use Rattle.network_plans.specs.Tables.{Outcome, written, decoded}
+use Rattle.network_plans.specs.Tables.{Outcome, over, written, decoded}
 use Rattle.network_data.specs.declared.Counts.{Counts}
 use Rattle.network_data.specs.declared.PrefixEntry.{PrefixEntry}
 use Rattle.network_data.specs.declared.HasRouteEntry.{HasRouteEntry}
@@ -35,6 +35,13 @@ nth-past [] old i h = refl
 nth-past (x ∷ new) old zero h = absurd (omega arith)
 nth-past (x ∷ new) [] (suc i) h = past-all new i (omega arith)
 nth-past (x ∷ new) (y ∷ old) (suc i) h = nth-past new old i (omega arith)
+
+-- new records stand from the first place on, and past them the old ones
+over-new : {A : Type 0} (new old : List A) (i : ℕ) → i < length new → nth (over new old) i ≡ nth new i
+over-new new old i h = nth-front new (drop (length new) old) i h
+
+over-old : {A : Type 0} (new old : List A) (i : ℕ) → length new ≤ i → nth (over new old) i ≡ nth old i
+over-old new old i h = nth-past new old i h
 
 -- what is given is c itself
 abbrev Only : Counts → Answer Counts → Type 0
@@ -65,12 +72,12 @@ module _ (P : List PrefixEntry) (H : List HasRouteEntry) (B : List BorderRouterE
       let k : d ≡ c = cc in
       let n = sym o ∙ k in
       record {
-        prefixes = λ i l. nth-front (map entryOf ps) _ i (simp length-map (omega (arith, ap (λ (x : Counts). x .prefixes) n)));
-        routes = λ i l. nth-front (allRoutes ps) _ i (omega (arith, ap (λ (x : Counts). x .«has_routes») n));
-        borders = λ i l. nth-front (allBorders ps) _ i (omega (arith, ap (λ (x : Counts). x .«border_routers») n));
-        prefixesStay = λ i l. nth-past (map entryOf ps) P i (simp length-map (omega (arith, ap (λ (x : Counts). x .prefixes) n)));
-        routesStay = λ i l. nth-past (allRoutes ps) H i (omega (arith, ap (λ (x : Counts). x .«has_routes») n));
-        bordersStay = λ i l. nth-past (allBorders ps) B i (omega (arith, ap (λ (x : Counts). x .«border_routers») n));
+        prefixes = λ i l. over-new (map entryOf ps) P i (simp length-map (omega (arith, ap (λ (x : Counts). x .prefixes) n)));
+        routes = λ i l. over-new (allRoutes ps) H i (omega (arith, ap (λ (x : Counts). x .«has_routes») n));
+        borders = λ i l. over-new (allBorders ps) B i (omega (arith, ap (λ (x : Counts). x .«border_routers») n));
+        prefixesStay = λ i l. over-old (map entryOf ps) P i (simp length-map (omega (arith, ap (λ (x : Counts). x .prefixes) n)));
+        routesStay = λ i l. over-old (allRoutes ps) H i (omega (arith, ap (λ (x : Counts). x .«has_routes») n));
+        bordersStay = λ i l. over-old (allBorders ps) B i (omega (arith, ap (λ (x : Counts). x .«border_routers») n));
       }
   written-agrees ps absent o c e = absurd (let z : _≡_ {A = ℕ} 0 1 = cc in omega arith)
   written-agrees ps (refused n p i) o c e = absurd (let z : _≡_ {A = ℕ} 0 1 = cc in omega arith)

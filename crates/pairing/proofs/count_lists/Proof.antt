@@ -16,20 +16,20 @@ use Rattle.pairing.proofs.count_lists.Tie as tie
 
 abbrev Inv-loop : tie.InvT-loop
 Inv-loop payload count₀ place₀ n₀ at₀ count place n at =
-    (length payload ≤ mostBytes) × (at ≤ length payload) × (n ≤ at)
+    Placing place (listsOf (framing payload .entries)) (listsOf (from payload at .entries)) n
     × Counting count (listsOf (framing payload .entries)) (listsOf (from payload at .entries)) n
-    × Placing place (listsOf (framing payload .entries)) (listsOf (from payload at .entries)) n
+    × (length payload ≤ mostBytes) × (at ≤ length payload) × (n ≤ at)
 
 abbrev μ-loop : tie.MeasureT-loop
 μ-loop payload count₀ place₀ n₀ at₀ count place n at = length payload - at
 
 loop-holds : tie.Need-loop-holds Inv-loop μ-loop
 loop-holds c = (
+  placing-same _ _ _ _ _ (lists-start _) (placing-start _),
+  counting-same _ _ _ _ _ (lists-start _) (counting-start _),
   c .before .pre,
   search needs,
   search needs,
-  counting-same _ _ _ _ _ (lists-start _) (counting-start _),
-  placing-same _ _ _ _ _ (lists-start _) (placing-start _),
 )
 
 frame-at-requires : tie.Need-frame-at-requires Inv-loop μ-loop
@@ -70,7 +70,7 @@ add-count c =
     let f = t .before .before in
     let l = f .before .loop in
     let inside = turn-inside _ _ _ (f .frame-at .ensures) _ _ _ (t .ty .given .1) in
-    omega (arith, l .inv .3 .low (c .list-id .result) (c .list-id .ensures .1))
+    omega (arith, l .inv .1 .low (c .list-id .result) (c .list-id .ensures .1))
 
 mul-count-2 : tie.Need-mul-count-2 Inv-loop μ-loop
 mul-count-2 c = omega (arith, c .list-id .ensures .1)
@@ -111,7 +111,7 @@ loop-again c =
     let inside = turn-inside _ _ _ (f .frame-at .ensures) _ _ _ (t .ty .given .1) in
     let id = simp add-sub-cancel-left at (c .list-id .ensures) in
     let hit = lists-hit _ _ _ (turn-entries _ _ _ (f .frame-at .ensures) _ _ _ (t .ty .given .1)) (i .if1 .taken) _ (id .0) in
-    (l .inv .0, inside .1, omega arith, counting-more _ _ _ _ _ _ hit (id .1) (l .inv .3), placing-more _ _ _ _ _ _ hit (id .1) (l .inv .4))
+    (placing-more _ _ _ _ _ _ hit (id .1) (l .inv .0), counting-more _ _ _ _ _ _ hit (id .1) (l .inv .1), l .inv .2, inside .1, omega arith)
 
 loop-less-2 : tie.Need-loop-less-2 Inv-loop μ-loop
 loop-less-2 c =
@@ -125,13 +125,13 @@ loop-again-2 c =
     let l = f .before .loop in
     let inside = turn-inside _ _ _ (f .frame-at .ensures) _ _ _ (t .ty .given .1) in
     let miss = lists-miss _ _ _ (turn-entries _ _ _ (f .frame-at .ensures) _ _ _ (t .ty .given .1)) (c .if1 .left) in
-    (l .inv .0, inside .1, omega arith, counting-same _ _ _ _ _ miss (l .inv .3), placing-same _ _ _ _ _ miss (l .inv .4))
+    (placing-same _ _ _ _ _ miss (l .inv .0), counting-same _ _ _ _ _ miss (l .inv .1), l .inv .2, inside .1, omega arith)
 
 returns : tie.Need-returns Inv-loop μ-loop
 returns c =
     let l = c .before .before .loop in
     let none = lists-none _ (turn-none _ _ _ (c .before .frame-at .ensures) (c .match .keys2)) in
-    (counting-end _ _ _ _ none (l .inv .3), placing-end _ _ _ _ none (l .inv .4))
+    (counting-end _ _ _ _ none (l .inv .1), placing-end _ _ _ _ none (l .inv .0))
 
 pub count-lists-spec : {M : Type 1} → statement M
 count-lists-spec =

@@ -4,6 +4,7 @@ use mathlib.Core.Path.{sym, ap, _∙_}
 use Rattle.tlv.specs.Answers.{countedAnswer}
 use Rattle.laws.proofs.Emits.{emit-refused, emit-no-room, emit-done}
 use Rattle.pairing.proofs.Payloads.{codes-refused, short-payload, short-table, codes-given, codes-many, codes-are, codes-length}
+use native.Mathlib.Omega.{arith}
 use borrow.Author.Needs.{needs}
 use Rattle.pairing.proofs.pair.Statement.{statement}
 use Rattle.pairing.proofs.pair.Tie as tie
@@ -29,7 +30,7 @@ returns-2 c =
     let e = t .before in
     let told = sym (ap countedAnswer (e .enum-told .given .1)) ∙ e .before .before .check-values .ensures in
     let table = t .last-value .ensures in
-    emit-no-room _ _ _ (codes-given _ _ told _ table) (rw (codes-many _ _ told _ table) (c .if1 .taken))
+    emit-no-room _ _ _ (codes-given _ _ told _ table) (rw (codes-many _ _ told _ table) (omega (arith, c .if1 .taken)))
 
 count-rows-requires : tie.Need-count-rows-requires
 count-rows-requires c κs =
@@ -63,7 +64,7 @@ returns-3 c =
     let k = lists .count-lists .ensures in
     let are = codes-are _ _ told _ (t .last-value .ensures) _ _ _ (rows .count-rows .ensures) (k .0) (k .1) in
     let many = codes-length _ _ _ _ in
-    emit-done _ _ _ are _ _ (sym many) (w .write-codes .ensures) (rw many (room .if1 .left))
+    emit-done _ _ _ are _ _ (sym many) (w .write-codes .ensures) (rw many (omega (arith, room .if1 .left)))
 
 pub pair-spec : {M : Type 1} → statement M
 pair-spec =

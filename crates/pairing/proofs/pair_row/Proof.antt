@@ -3,6 +3,7 @@
 use mathlib.Core.Path.{sym, ap, _∙_}
 use Rattle.tlv.specs.Answers.{countedAnswer}
 use Rattle.pairing.proofs.Payloads.{row-refused, short-payload, short-table, row-absent, row-answered}
+use native.Mathlib.Omega.{arith}
 use borrow.Author.Needs.{needs}
 use Rattle.pairing.proofs.pair_row.Statement.{statement}
 use Rattle.pairing.proofs.pair_row.Tie as tie
@@ -27,7 +28,7 @@ returns-2 c =
     let t = c .before in
     let e = t .before in
     let told = sym (ap countedAnswer (e .enum-told .given .1)) ∙ e .before .before .check-values .ensures in
-    row-absent _ _ told _ (t .last-value .ensures) _ (c .if1 .taken)
+    row-absent _ _ told _ (t .last-value .ensures) _ (omega (arith, c .if1 .taken))
 
 row-id-requires : tie.Need-row-id-requires
 row-id-requires c κs = search needs
@@ -77,7 +78,7 @@ returns-3 c =
     let e = t .before in
     let told = sym (ap countedAnswer (e .enum-told .given .1)) ∙ e .before .before .check-values .ensures in
     let k = lists .count-lists .ensures in
-    row-answered _ _ told _ (t .last-value .ensures) _ _ _ (rows .count-rows .ensures) (k .0) (k .1) _ _ (inside .if1 .left) (id .row-id .ensures .0) _ (c .judge .ensures)
+    row-answered _ _ told _ (t .last-value .ensures) _ _ _ (rows .count-rows .ensures) (k .0) (k .1) _ _ (omega (arith, inside .if1 .left)) (id .row-id .ensures .0) _ (c .judge .ensures)
 
 pub pair-row-spec : {M : Type 1} → statement M
 pair-row-spec =

@@ -2,6 +2,7 @@
 -- Assumes nothing.
 use Rattle.speed.specs.Code.{code}
 use borrow.Author.Needs.{needs}
+use native.Mathlib.Omega.{arith}
 use Rattle.speed.proofs.coded.Statement.{statement}
 use Rattle.speed.proofs.coded.Tie as tie
 
@@ -26,7 +27,7 @@ returns c = rw (c .before .w .given .1)
 
 returns-2 : tie.Need-returns-2
 unfolding code
-returns-2 c = rw (c .before .before .w2 .given .1, c .number .ensures)
+returns-2 c = rw (c .before .before .w2 .given .1) (omega (arith, c .number .ensures))
 
 pub coded-spec : {M : Type 1} → statement M
 coded-spec =

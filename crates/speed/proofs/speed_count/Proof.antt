@@ -1,6 +1,9 @@
 -- `speed::speed_count` meets its contract.
 -- Assumes nothing.
-use mathlib.Core.Path.{_∙_, ap, sym}
+use mathlib.Core.Path.{_≡_, _∙_, ap, sym}
+use Prim.Native.Nat.{ℕ}
+use native.Mathlib.Omega.{arith}
+use Rattle.refusal.specs.Answer.{Answer, given}
 use Rattle.speed.specs.Code.{code}
 use Rattle.tlv.specs.Answers.{countedAnswer}
 use borrow.Author.Needs.{needs}
@@ -19,9 +22,12 @@ enum-known-r c = search needs
 coded-requires : tie.Need-coded-requires
 coded-requires c κs = search needs
 
-returns : tie.Need-returns
+counted : (x n : ℕ) (a : Answer ℕ) → given n ≡ a → x ≡ n → x ≡ code a
 unfolding code
-returns c = ap code (sym (ap countedAnswer (c .before .n .given .1)) ∙ c .before .before .before .«count-entries» .ensures)
+counted x n a e same = same ∙ ap code e
+
+returns : tie.Need-returns
+returns c = counted _ _ _ (sym (ap countedAnswer (c .before .n .given .1)) ∙ c .before .before .before .«count-entries» .ensures) (omega arith)
 
 returns-2 : tie.Need-returns-2
 returns-2 c = c .coded .ensures ∙ ap code (sym (ap countedAnswer (c .before .before .r .given .1)) ∙ c .before .before .before .before .«count-entries» .ensures)

@@ -1,6 +1,6 @@
 -- `value_sums::plus` meets its contract.
 -- Assumes nothing.
-use borrow.Author.Needs.{needs}
+use native.Mathlib.Omega.{arith}
 use Rattle.value_sums.specs.Sums.{plus}
 use Rattle.value_sums.proofs.plus.Statement.{statement}
 use Rattle.value_sums.proofs.plus.Tie as tie
@@ -10,7 +10,7 @@ wrapping-add-u64-requires c κs = tt
 
 returns : tie.Need-returns
 unfolding plus
-returns c = search needs
+returns c = omega (arith, c .wrapping-add-u64 .ensures)
 
 pub plus-spec : {M : Type 1} → statement M
 plus-spec = tie.close (tie.spec wrapping-add-u64-requires returns)
