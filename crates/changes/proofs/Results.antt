@@ -7,7 +7,7 @@ use Prim.Native.Nat.{ℕ, suc, _+_, _*_, _≤_, _<_}
 use native.Mathlib.Omega.{arith}
 use native.Mathlib.Nat.{zero-add}
 use lib.ListN.{length, getD, length-append, length-map, replicate}
-use borrow.Author.Tests.{lt-ltb, le-ltb}
+use borrow.Author.Tests.{le-ltb}
 use Rattle.refusal.specs.Sizes.{mostBytes, mostEntries}
 use Rattle.refusal.specs.Answer.{Answer, given, refused, onGiven, thenDo}
 use Rattle.refusal.specs.Every.{Bytes}
@@ -107,14 +107,6 @@ abbrev pub fewest : (marks first second : List ℕ) → List Op
 fewest m a b = goneBelow 256 m ++ map set (foldedSets m a b)
 
 module _ (os : List Op) where
-  pub ops-too-long : mostBytes < length (encodeOps os) → refused 10 0 0 ≡ sizedOps os
-  unfolding sizedOps
-  ops-too-long h = simp (lt-ltb _ _ h)
-
-  pub ops-too-many : length (encodeOps os) ≤ mostBytes → mostEntries < length os → refused 10 0 0 ≡ sizedOps os
-  unfolding sizedOps
-  ops-too-many h k = simp (le-ltb _ _ h, lt-ltb _ _ k)
-
   pub ops-fit : length (encodeOps os) ≤ mostBytes → length os ≤ mostEntries → sizedOps os ≡ given (encodeOps os)
   unfolding sizedOps
   ops-fit h k = simp (le-ltb _ _ h, le-ltb _ _ k)

@@ -1,26 +1,28 @@
 -- `changes::run` meets its contract.
 -- Assumes nothing.
-use mathlib.Core.Path.{_≡_, sym, ap, _∙_}
+use mathlib.Core.Path.{_≡_, refl, sym, ap, _∙_}
 use mathlib.Core.Bool.{false}
 use mathlib.Core.List.{List}
 use Prim.Native.Nat.{ℕ, _+_, _≤_}
 use native.Mathlib.Omega.{arith}
 use lib.ListN.{length}
 use borrow.Author.Needs.{needs}
-use Rattle.refusal.specs.Sizes.{mostBytes}
+use Rattle.refusal.specs.Sizes.{mostBytes, mostEntries}
 use Rattle.refusal.specs.Answer.{given, onGiven}
-use Rattle.laws.proofs.Emits.{emit-refused, emit-no-room, emit-done}
+use Rattle.refusal.specs.Output.{writtenAnswer}
+use Rattle.laws.proofs.Emits.{emit-refused, emit-done}
 use Rattle.tlv.specs.Entries.{Content, contents, framing}
 use Rattle.tlv.specs.Limits.{count}
 use Rattle.tlv_writing.specs.Encode.{encodeAll, sized}
 use Rattle.tlv.specs.Answers.{countedAnswer}
 use Rattle.tlv.proofs.Tally as tally
-use Rattle.tlv_writing.proofs.Several.{sized-bytes, sized-count, sized-is}
+use Rattle.tlv_writing.proofs.Several.{sized-is}
 use Rattle.change_lists.specs.Operations.{operations}
 use Rattle.change_folds.specs.Run.{ran}
 use Rattle.changes.specs.Loops.{opsAfter, spared, chosen, encodeSets}
 use Rattle.change_lists.specs.Answers.{countedOpsAnswer}
 use Rattle.change_lists.proofs.Counts.{counted-short}
+use Rattle.changes.proofs.Rooms.{room-refused, room-given}
 use Rattle.changes.proofs.Results.{put-both, left, run-refused, run-list-refused, run-sized, left-bytes, left-spared, left-chosen, left-length, left-count}
 use Rattle.changes.proofs.run.Statement.{statement}
 use Rattle.changes.proofs.run.Tie as tie
@@ -55,6 +57,9 @@ module _ (z : tie.After-chosen-extent) where
   abbrev result : List Content
   result = left marks (inputs .dataset) (inputs .list)
 
+  abbrev lent : List ℕ
+  lent = z .before .before .before .before .before .before .before .before .before .before .before .before .args .out .now
+
   is-sized : ran (inputs .dataset) (inputs .list) ≡ sized result
   is-sized =
       let c = z .before .before .before in
@@ -76,6 +81,14 @@ module _ (z : tie.After-chosen-extent) where
 
   chosen-size : z .chosen-extent .result .bytes ≡ length sets
   chosen-size = left-chosen marks (inputs .dataset) (inputs .list) _ _ (z .before .spared-extent .ensures .0) (z .chosen-extent .ensures .0)
+
+-- and once the result is found to keep the sizes and to have room
+module _ (e : tie.After-enum-told3) where
+  abbrev measured : tie.After-chosen-extent
+  measured = e .before .before .before .before .before .before .before
+
+  fits : (length (encodeAll (result measured)) ≤ mostBytes) × (length (result measured) ≤ mostEntries) × (length (encodeAll (result measured)) ≤ length (lent measured))
+  fits = rw (bytes measured, number measured) (room-given _ _ _ _ (sym (ap writtenAnswer (e .enum-told3 .given .1)) ∙ e .before .before .room-for .ensures))
 
 count-entries-requires : tie.Need-count-entries-requires
 count-entries-requires c κs = search needs
@@ -120,68 +133,55 @@ chosen-extent-requires c κs = (short-list (c .before .before), search needs)
 add-need : tie.Need-add-need
 add-need c = search needs
 
-refuse-requires : tie.Need-refuse-requires
-refuse-requires c κs = search needs
+add-entries : tie.Need-add-entries
+add-entries c = search needs
+
+room-for-requires : tie.Need-room-for-requires
+room-for-requires c κs = search needs
+
+enum-known-r-3 : tie.Need-enum-known-r-3
+enum-known-r-3 c = search needs
 
 returns-3 : tie.Need-returns-3
+unfolding sized
 returns-3 c =
-    let z = c .before .before .before .before in
-    rw (c .refuse .ensures) (emit-refused _ _ _ _ _ (sized-bytes (result z) (omega (arith, bytes z, c .before .if1 .taken)) ∙ sym (is-sized z)))
+    let f = c .before .before .before in
+    let z = f .before .before .before .before .before in
+    let told = sym (ap writtenAnswer (c .before .r3 .given .1)) ∙ f .room-for .ensures in
+    rw (is-sized z) (room-refused (encodeAll (result z)) (lent z) (length (result z)) _ _ _ (bytes z) (number z) refl _ _ _ told)
 
-add-if2 : tie.Need-add-if2
-add-if2 c = search needs
-
-refuse-requires-2 : tie.Need-refuse-requires-2
-refuse-requires-2 c κs = search needs
-
-returns-4 : tie.Need-returns-4
-returns-4 c =
-    let e1 = c .before .before .before .before in
-    let z = e1 .before .before .before in
-    rw (c .refuse2 .ensures)
-    (emit-refused _ _ _ _ _ (sized-count (result z) (omega (arith, bytes z, e1 .if1 .left)) (omega (arith, number z, c .before .if2 .taken)) ∙ sym (is-sized z)))
-
-refuse-requires-3 : tie.Need-refuse-requires-3
-refuse-requires-3 c κs = search needs
-
-returns-5 : tie.Need-returns-5
-returns-5 c =
-    let e2 = c .before .before in
-    let e1 = e2 .before .before .before in
-    let z = e1 .before .before .before in
-    let fits = is-sized z ∙ sized-is (result z) (omega (arith, bytes z, e1 .if1 .left)) (omega (arith, number z, e2 .if2 .left)) in
-    rw (c .refuse3 .ensures) (emit-no-room _ _ _ fits (omega (arith, bytes z, c .before .if3 .taken)))
+enum-told-3 : tie.Need-enum-told-3
+enum-told-3 c = search needs
 
 put-spared-requires : tie.Need-put-spared-requires
 put-spared-requires c κs =
-    let z = c .before .before .before .before .before .before .before .before in
-    (short (z .before .before .before), omega (arith, spared-size z, c .before .if3 .left))
+    let e = c .before in
+    let z = measured e in
+    (short (z .before .before .before), omega (arith, bytes z, spared-size z, fits e))
 
 put-chosen-requires : tie.Need-put-chosen-requires
 put-chosen-requires c κs =
     let p = c .before .before .before in
-    let e3 = p .before .before in
-    let z = e3 .before .before .before .before .before .before .before in (
+    let e = p .before .before in
+    let z = measured e in (
       short-list (z .before .before .before),
       search needs,
-      omega (arith, spared-size z, chosen-size z, e3 .if3 .left, p .put-spared .ensures .0, p .put-spared .kept .1 .1 .0),
+      omega (arith, bytes z, spared-size z, chosen-size z, fits e, p .put-spared .ensures .0, p .put-spared .kept .1 .1 .0),
     )
 
 same-length : tie.Need-same-length
 same-length c = search needs
 
-returns-6 : tie.Need-returns-6
-returns-6 c =
+returns-4 : tie.Need-returns-4
+returns-4 c =
     let k = c .before .before in
     let p = k .before .before .before .before in
-    let e3 = p .before .before in
-    let e2 = e3 .before in
-    let e1 = e2 .before .before .before in
-    let z = e1 .before .before .before in
-    emit-done _ _ _ (is-sized z ∙ sized-is (result z) (omega (arith, bytes z, e1 .if1 .left)) (omega (arith, number z, e2 .if2 .left))) _ _
+    let e = p .before .before in
+    let z = measured e in
+    emit-done _ _ _ (is-sized z ∙ sized-is (result z) (fits e .0) (fits e .1)) _ _
     (omega (arith, bytes z, spared-size z, chosen-size z, k .put-chosen .ensures .0, p .put-spared .ensures .0))
     (put-both _ _ _ _ _ (sets z) _ (p .put-spared .ensures .1) (p .put-spared .ensures .0) (k .put-chosen .ensures .1) (left-bytes _ _ _))
-    (omega (arith, bytes z, e3 .if3 .left))
+    (fits e .2)
 
 pub run-spec : {M : Type 1} → statement M
 run-spec =
@@ -199,14 +199,12 @@ run-spec =
     spared-extent-requires
     chosen-extent-requires
     add-need
-    refuse-requires
+    add-entries
+    room-for-requires
+    enum-known-r-3
     returns-3
-    add-if2
-    refuse-requires-2
-    returns-4
-    refuse-requires-3
-    returns-5
+    enum-told-3
     put-spared-requires
     put-chosen-requires
     same-length
-    returns-6)
+    returns-4)
