@@ -6,12 +6,15 @@ use refusal::Written;
 use tlv::Counted;
 use tlv::Frame;
 ghost use mathlib.Core.Path.{_≡_};
-ghost use Prim.Native.Nat.{_+_, _*_, _≤_};
+ghost use Prim.Native.Nat.{ℕ, _+_, _*_, _≤_};
 ghost use lib.ListN.{length};
 ghost use Rattle.refusal.specs.Sizes.{mostBytes, mostValue};
 ghost use Rattle.refusal.specs.Output.{output, emit, writtenAnswer, put};
+ghost use Rattle.refusal.specs.Answer.{thenDo};
+ghost use Rattle.tlv.specs.Answers.{countedAnswer};
 ghost use Rattle.tlv.specs.Entries.{content, contents, framing};
 ghost use Rattle.tlv_writing.specs.Encode.{encodeAll};
+ghost use Rattle.change_lists.specs.Answers.{countedOpsAnswer};
 ghost use Rattle.change_lists.specs.Operations.{encodeOps};
 ghost use Rattle.change_folds.specs.Run.{ran};
 ghost use Rattle.change_folds.specs.Fold.{folded, foldedTwo};
@@ -227,29 +230,45 @@ fn room_for(bytes: usize, entries: usize, room: usize) -> Written
     Written::Bytes(bytes)
 }
 
+// The count of a list's operations, as that of a dataset's entries is told.
+fn as_count(c: CountedOps) -> Counted
+    ensures { λ r. ⌜ countedAnswer r ≡ countedOpsAnswer c ⌝ }
+{
+    match c {
+        CountedOps::Operations(n) => Counted::Entries(n),
+        CountedOps::Refused(r) => Counted::Refused(r),
+    }
+}
+
+// For two inputs all faults of the first come first.
+fn first_fault(first: Counted, second: Counted) -> Counted
+    ensures { λ r. ⌜ countedAnswer r ≡ thenDo (countedAnswer first) (λ (n : ℕ). countedAnswer second) ⌝ }
+{
+    match first {
+        Counted::Entries(_) => second,
+        Counted::Refused(r) => Counted::Refused(r),
+    }
+}
+
 // The dataset's entries after the operations of the list, sizes tested once, at the end. Refusals: 1, 2, 3 of the dataset, 1, 9, 3 of
 // the list, 10, 11.
 pub fn run(dataset: &[u8], list: &[u8], out: &mut [u8]) -> Written
     ensures { λ r. ⌜ output (writtenAnswer r) (now (out .exit)) ≡ emit (ran (now (dataset .entry)) (now (list .entry))) (now (out .entry)) ⌝ }
 {
-    match tlv::count_entries(dataset, 0) {
+    let entries = tlv::count_entries(dataset, 0);
+    let operations = as_count(change_lists::count_operations(list, 1));
+    match first_fault(entries, operations) {
         Counted::Refused(r) => {
             return Written::Refused(r);
         }
         Counted::Entries(_) => {}
     }
-    match change_lists::count_operations(list, 1) {
-        CountedOps::Refused(r) => {
-            return Written::Refused(r);
-        }
-        CountedOps::Operations(_) => {}
-    }
     let marks = mark([0usize; 256], list, 0);
     let spared = spared_extent(dataset, marks);
     let chosen = chosen_extent(list, marks, 0);
     let need = spared.bytes + chosen.bytes;
-    let entries = spared.entries + chosen.entries;
-    match room_for(need, entries, out.len()) {
+    let number = spared.entries + chosen.entries;
+    match room_for(need, number, out.len()) {
         Written::Refused(r) => {
             return Written::Refused(r);
         }

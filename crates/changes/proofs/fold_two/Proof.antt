@@ -161,8 +161,8 @@ put-chosen-requires c κs =
     let p = c .before .before .before in
     let e = p .before .before in
     let z = measured e in (
-      short (z .before .before .before),
-      search needs,
+      omega (arith, short (z .before .before .before), short-second (z .before .before .before)),
+      omega (arith, short (z .before .before .before)),
       omega (arith, bytes z, parts z, fits e, p .put-removals .ensures .0, p .put-removals .kept .1 .0),
     )
 
@@ -172,8 +172,8 @@ put-chosen-requires-2 c κs =
     let p = q .before .before .before .before in
     let e = p .before .before in
     let z = measured e in (
-      short-second (z .before .before .before),
-      short (z .before .before .before),
+      omega (arith, short (z .before .before .before), short-second (z .before .before .before)),
+      omega (arith, short (z .before .before .before)),
       omega (arith, bytes z, parts z, fits e, p .put-removals .ensures .0, p .put-removals .kept .1 .0, q .put-chosen .ensures .0, q .put-chosen .kept .1 .1 .1 .1 .0),
     )
 
