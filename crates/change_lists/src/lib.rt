@@ -88,7 +88,7 @@ fn refuse(fault: Fault, place: usize, input: u8) -> CountedOps
 }
 
 // What the walk answers where it ends, n operations passed: 9 at the place of one that is none, then 3 at the place of the 129th, over.
-fn ended(bad: bool, at: usize, n: usize, over: usize, input: u8) -> CountedOps
+fn stopped(bad: bool, at: usize, n: usize, over: usize, input: u8) -> CountedOps
     ensures { λ r. ⌜ countedOpsAnswer r ≡ pick bad (refused 9 at input) (pick (ltb mostEntries n) (refused 3 over input) (given n)) ⌝ }
 {
     let many = n > refusal::MAX_ENTRIES;
@@ -114,10 +114,10 @@ pub fn count_operations(list: &[u8], input: u8) -> CountedOps
     loop {
         match operation_at(list, at) {
             OpFrame::End => {
-                return ended(false, at, n, over, input);
+                return stopped(false, at, n, over, input);
             }
             OpFrame::Bad => {
-                return ended(true, at, n, over, input);
+                return stopped(true, at, n, over, input);
             }
             OpFrame::Set { ty: _, start, len } => {
                 over = over_at(n, at, over);

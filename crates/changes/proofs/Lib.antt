@@ -4,3 +4,4 @@ pub mod Turns
 pub mod Writes
 pub mod Removals
 pub mod Results
+pub mod Rooms

@@ -7,9 +7,9 @@ use Prim.Native.Nat.{ℕ, suc, _+_, _*_, _≤_, _<_}
 use native.Mathlib.Omega.{arith}
 use native.Mathlib.Nat.{zero-add}
 use lib.ListN.{length, getD, length-append, length-map, replicate}
-use borrow.Author.Tests.{lt-ltb, le-ltb}
+use borrow.Author.Tests.{le-ltb}
 use Rattle.refusal.specs.Sizes.{mostBytes, mostEntries}
-use Rattle.refusal.specs.Answer.{Answer, given, refused, onGiven, thenDo}
+use Rattle.refusal.specs.Answer.{Answer, given, absent, refused, onGiven, thenDo}
 use Rattle.refusal.specs.Every.{Bytes}
 use Rattle.refusal.specs.Output.{Output, emit, put}
 use Rattle.laws.proofs.Parts.{every-append}
@@ -79,6 +79,25 @@ module _ (d l : List ℕ) where
           (ap (λ (os : List Op). runAll os cs) (sym (bare-after 0 l)) ∙ run-is (bare (opsAfter 0 l)) cs
           ∙ ap₂ _++_ (sym (spared-is m (opsAfter 0 l) g fit cs)) (sym (chosen-is m (opsAfter 0 l) g fit 0 (0 + length l) (between-after 0 l))))
 
+-- by what `first_fault` says of both counts
+pub record Both (a b : Answer ℕ) (x : ℕ) : Type 0 where
+  pub entries : ℕ
+  pub one : given entries ≡ a
+  pub two : given x ≡ b
+
+pub both-given : (a b : Answer ℕ) (x : ℕ) → given x ≡ thenDo a (λ (n : ℕ). b) → Both a b x
+both-given (given n) b x e = record { entries = n; one = refl; two = e }
+both-given absent b x e = absurd (let z : _≡_ {A = ℕ} 0 1 = cc in omega arith)
+both-given (refused n p k) b x e = absurd (let z : _≡_ {A = ℕ} 0 1 = cc in omega arith)
+
+fault-by : (d l : List ℕ) (a : Answer ℕ) → a ≡ count 0 d → (n p k : ℕ) → refused n p k ≡ thenDo a (λ (x : ℕ). onGiven length (operations 1 l)) → refused n p k ≡ ran d l
+fault-by d l (given x) e n p k h = run-list-refused d l x e n p k h
+fault-by d l absent e n p k h = absurd (let z : _≡_ {A = ℕ} 0 1 = cc in omega arith)
+fault-by d l (refused x y z) e n p k h = run-refused d l n p k (h ∙ e)
+
+pub run-fault : (d l : List ℕ) (n p k : ℕ) → refused n p k ≡ thenDo (count 0 d) (λ (x : ℕ). onGiven length (operations 1 l)) → refused n p k ≡ ran d l
+run-fault d l n p k h = fault-by d l (count 0 d) refl n p k h
+
 pub left-bytes : (m d l : List ℕ) → encodeAll (left m d l) ≡ encodeAll (spared m (contents (framing d .entries))) ++ encodeSets false (chosen m (opsAfter 0 l))
 left-bytes m d l =
     encode-append (spared m (contents (framing d .entries))) (chosen m (opsAfter 0 l))
@@ -107,14 +126,6 @@ abbrev pub fewest : (marks first second : List ℕ) → List Op
 fewest m a b = goneBelow 256 m ++ map set (foldedSets m a b)
 
 module _ (os : List Op) where
-  pub ops-too-long : mostBytes < length (encodeOps os) → refused 10 0 0 ≡ sizedOps os
-  unfolding sizedOps
-  ops-too-long h = simp (lt-ltb _ _ h)
-
-  pub ops-too-many : length (encodeOps os) ≤ mostBytes → mostEntries < length os → refused 10 0 0 ≡ sizedOps os
-  unfolding sizedOps
-  ops-too-many h k = simp (le-ltb _ _ h, lt-ltb _ _ k)
-
   pub ops-fit : length (encodeOps os) ≤ mostBytes → length os ≤ mostEntries → sizedOps os ≡ given (encodeOps os)
   unfolding sizedOps
   ops-fit h k = simp (le-ltb _ _ h, le-ltb _ _ k)

@@ -2,11 +2,12 @@
 -- Assumes nothing.
 use mathlib.Core.Path.{_≡_}
 use Prim.Native.Nat.{ℕ, zero, suc, _+_, _<_}
-use mathlib.Core.Bool.{Bool, true, false}
+use mathlib.Core.Bool.{Bool, true, false, _||_}
 use mathlib.Core.List.{List, [], _∷_, _++_}
 use lib.ListN.{length, getD}
-use lib.Dec.{eqb}
-use Rattle.refusal.specs.Answer.{pick}
+use lib.Dec.{ltb, eqb}
+use Rattle.refusal.specs.Sizes.{mostBytes, mostEntries}
+use Rattle.refusal.specs.Answer.{pick, Answer, given, refused}
 use Rattle.tlv.specs.Entries.{Content}
 use Rattle.tlv_writing.specs.Encode.{encode, encodeAll}
 use Rattle.change_lists.specs.Operations.{Op, set, remove, OpAt, opAt, opsOf, encodeOp, encodeOps}
@@ -82,3 +83,7 @@ foldedExtent m a b = record {
   bytes = length (encodeOps (goneBelow 256 m)) + length (encodeSets true (foldedSets m a b));
   entries = length (goneBelow 256 m) + length (foldedSets m a b);
 }
+
+-- ---- whether a result of so many bytes and entries or operations keeps the sizes, then whether it has room
+unfoldable pub roomFor : (bytes entries room : ℕ) → Answer ℕ
+roomFor b e room = pick (ltb mostBytes b || ltb mostEntries e) (refused 10 0 0) (pick (ltb room b) (refused 11 0 0) (given b))

@@ -6,16 +6,19 @@ use refusal::Written;
 use tlv::Counted;
 use tlv::Frame;
 ghost use mathlib.Core.Path.{_≡_};
-ghost use Prim.Native.Nat.{_+_, _*_, _≤_};
+ghost use Prim.Native.Nat.{ℕ, _+_, _*_, _≤_};
 ghost use lib.ListN.{length};
 ghost use Rattle.refusal.specs.Sizes.{mostBytes, mostValue};
 ghost use Rattle.refusal.specs.Output.{output, emit, writtenAnswer, put};
+ghost use Rattle.refusal.specs.Answer.{thenDo};
+ghost use Rattle.tlv.specs.Answers.{countedAnswer};
 ghost use Rattle.tlv.specs.Entries.{content, contents, framing};
 ghost use Rattle.tlv_writing.specs.Encode.{encodeAll};
+ghost use Rattle.change_lists.specs.Answers.{countedOpsAnswer};
 ghost use Rattle.change_lists.specs.Operations.{encodeOps};
 ghost use Rattle.change_folds.specs.Run.{ran};
 ghost use Rattle.change_folds.specs.Fold.{folded, foldedTwo};
-ghost use Rattle.changes.specs.Loops.{opsAfter, Marked, spared, chosen, goneBelow, encodeSet, encodeSets, extentOf, foldedExtent};
+ghost use Rattle.changes.specs.Loops.{opsAfter, Marked, spared, chosen, goneBelow, encodeSet, encodeSets, extentOf, foldedExtent, roomFor};
 
 // The bytes that some entries take as they are written, and their number.
 struct Extent {
@@ -212,35 +215,64 @@ fn put_removals(marks: [usize; 256], out: &mut [u8]) -> usize
     to
 }
 
+// Whether a result of so many bytes and entries or operations is within the sizes, and then whether it has room: 10, 11.
+fn room_for(bytes: usize, entries: usize, room: usize) -> Written
+    ensures { λ r. ⌜ writtenAnswer r ≡ roomFor bytes entries room ⌝ }
+{
+    let over = (bytes > refusal::MAX_BYTES) | (entries > refusal::MAX_ENTRIES);
+    let short = bytes > room;
+    if over {
+        return refusal::refuse(Fault::ResultTooLarge, 0);
+    }
+    if short {
+        return refusal::refuse(Fault::NoRoom, 0);
+    }
+    Written::Bytes(bytes)
+}
+
+// The count of a list's operations, as that of a dataset's entries is told.
+fn as_count(c: CountedOps) -> Counted
+    ensures { λ r. ⌜ countedAnswer r ≡ countedOpsAnswer c ⌝ }
+{
+    match c {
+        CountedOps::Operations(n) => Counted::Entries(n),
+        CountedOps::Refused(r) => Counted::Refused(r),
+    }
+}
+
+// For two inputs all faults of the first come first.
+fn first_fault(first: Counted, second: Counted) -> Counted
+    ensures { λ r. ⌜ countedAnswer r ≡ thenDo (countedAnswer first) (λ (n : ℕ). countedAnswer second) ⌝ }
+{
+    match first {
+        Counted::Entries(_) => second,
+        Counted::Refused(r) => Counted::Refused(r),
+    }
+}
+
 // The dataset's entries after the operations of the list, sizes tested once, at the end. Refusals: 1, 2, 3 of the dataset, 1, 9, 3 of
 // the list, 10, 11.
 pub fn run(dataset: &[u8], list: &[u8], out: &mut [u8]) -> Written
     ensures { λ r. ⌜ output (writtenAnswer r) (now (out .exit)) ≡ emit (ran (now (dataset .entry)) (now (list .entry))) (now (out .entry)) ⌝ }
 {
-    match tlv::count_entries(dataset, 0) {
+    let entries = tlv::count_entries(dataset, 0);
+    let operations = as_count(change_lists::count_operations(list, 1));
+    match first_fault(entries, operations) {
         Counted::Refused(r) => {
             return Written::Refused(r);
         }
         Counted::Entries(_) => {}
     }
-    match change_lists::count_operations(list, 1) {
-        CountedOps::Refused(r) => {
-            return Written::Refused(r);
-        }
-        CountedOps::Operations(_) => {}
-    }
     let marks = mark([0usize; 256], list, 0);
     let spared = spared_extent(dataset, marks);
     let chosen = chosen_extent(list, marks, 0);
     let need = spared.bytes + chosen.bytes;
-    if need > refusal::MAX_BYTES {
-        return refusal::refuse(Fault::ResultTooLarge, 0);
-    }
-    if spared.entries + chosen.entries > refusal::MAX_ENTRIES {
-        return refusal::refuse(Fault::ResultTooLarge, 0);
-    }
-    if need > out.len() {
-        return refusal::refuse(Fault::NoRoom, 0);
+    let number = spared.entries + chosen.entries;
+    match room_for(need, number, out.len()) {
+        Written::Refused(r) => {
+            return Written::Refused(r);
+        }
+        Written::Bytes(_) => {}
     }
     let to = put_spared(dataset, marks, out);
     Written::Bytes(put_chosen(list, marks, 0, false, out, to))
@@ -281,15 +313,11 @@ pub fn fold_two(first: &[u8], second: &[u8], out: &mut [u8]) -> Written
     let base = first.len();
     let marks = mark(mark([0usize; 256], first, 0), second, base);
     let extent = folded_extent(first, second, marks);
-    let need = extent.bytes;
-    if need > refusal::MAX_BYTES {
-        return refusal::refuse(Fault::ResultTooLarge, 0);
-    }
-    if extent.entries > refusal::MAX_ENTRIES {
-        return refusal::refuse(Fault::ResultTooLarge, 0);
-    }
-    if need > out.len() {
-        return refusal::refuse(Fault::NoRoom, 0);
+    match room_for(extent.bytes, extent.entries, out.len()) {
+        Written::Refused(r) => {
+            return Written::Refused(r);
+        }
+        Written::Bytes(_) => {}
     }
     let sets = put_removals(marks, out);
     let more = put_chosen(first, marks, 0, true, out, sets);

@@ -23,7 +23,7 @@ pub fn from_hex(text: &[u8], out: &mut [u8]) -> Written
 {
     let mut bytes = [0u8; refusal::MAX_BYTES];
     match base16::decode(text, &mut bytes) {
-        Written::Refused(r) => Written::Refused(r),
+        Written::Refused(why) => Written::Refused(why),
         Written::Bytes(n) => framed_copy(&bytes[0..n], out),
     }
 }

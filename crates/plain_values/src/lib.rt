@@ -2,6 +2,7 @@
 use refusal::Fault;
 use refusal::Refusal;
 ghost use mathlib.Core.Path.{_≡_};
+ghost use Rattle.refusal.specs.Answer.{refused};
 ghost use Rattle.wire.specs.Be.{ruled};
 ghost use Rattle.plain_values.specs.Plain.{checkedAnswer, checked, copy8, copy16, copied, sizedValue, nameAt};
 
@@ -54,10 +55,10 @@ pub fn read_array_8(value: &[u8], place: usize) -> Array8
 pub fn read_array_16(value: &[u8], place: usize) -> Array16
     ensures { λ r. ⌜ copy16 r ≡ copied 16 (ruled 16 place (now (value .entry))) ⌝ }
 {
-    let n = value.len();
-    if n != 16 {
+    let size = value.len();
+    if size != 16 {
         return Array16 {
-            answer: Checked::Refused(wire::misfit(n, place)),
+            answer: Checked::Refused(wire::misfit(size, place)),
             bytes: [0u8; 16],
         };
     }
@@ -73,16 +74,23 @@ pub fn read_array_16(value: &[u8], place: usize) -> Array16
     }
 }
 
+// A value over the size.
+fn too_large() -> Checked
+    ensures { λ r. ⌜ checkedAnswer r ≡ refused 1 0 0 ⌝ }
+{
+    Checked::Refused(Refusal {
+        fault: Fault::TooLarge,
+        place: 0,
+        input: 0,
+    })
+}
+
 // A bare value of any length, as a PSKc is. Refusal: 1.
 pub fn check_bytes(value: &[u8]) -> Checked
     ensures { λ r. ⌜ checkedAnswer r ≡ checked (sizedValue (now (value .entry))) ⌝ }
 {
     if value.len() > refusal::MAX_BYTES {
-        return Checked::Refused(Refusal {
-            fault: Fault::TooLarge,
-            place: 0,
-            input: 0,
-        });
+        return too_large();
     }
     Checked::Valid
 }
@@ -91,12 +99,9 @@ pub fn check_bytes(value: &[u8]) -> Checked
 pub fn check_name(value: &[u8], place: usize) -> Checked
     ensures { λ r. ⌜ checkedAnswer r ≡ checked (nameAt place (now (value .entry))) ⌝ }
 {
-    if value.len() > refusal::MAX_BYTES {
-        return Checked::Refused(Refusal {
-            fault: Fault::TooLarge,
-            place: 0,
-            input: 0,
-        });
+    let n = value.len();
+    if n > refusal::MAX_BYTES {
+        return too_large();
     }
     if utf8::is_utf8(value) {
         return Checked::Valid;

@@ -117,7 +117,7 @@ fn refuse(fault: Fault, place: usize, input: u8) -> Counted
 }
 
 // What the walk answers where it ends, n entries passed: 2 at a cut entry's place, then 3 at the place of the 129th, over.
-fn ended(cut: bool, at: usize, n: usize, over: usize, input: u8) -> Counted
+fn stopped(cut: bool, at: usize, n: usize, over: usize, input: u8) -> Counted
     ensures { λ r. ⌜ countedAnswer r ≡ pick cut (refused 2 at input) (pick (ltb mostEntries n) (refused 3 over input) (given n)) ⌝ }
 {
     let many = n > refusal::MAX_ENTRIES;
@@ -143,10 +143,10 @@ pub fn count_entries(s: &[u8], input: u8) -> Counted
     loop {
         match frame_at(s, at) {
             Frame::End => {
-                return ended(false, at, n, over, input);
+                return stopped(false, at, n, over, input);
             }
             Frame::Cut => {
-                return ended(true, at, n, over, input);
+                return stopped(true, at, n, over, input);
             }
             Frame::Entry { ty: _, start, len } => {
                 if n == refusal::MAX_ENTRIES {

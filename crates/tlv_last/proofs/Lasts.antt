@@ -10,12 +10,12 @@ use lib.ListN.{length, take, drop}
 use lib.Dec.{eqb}
 use borrow.Author.Tests.{eq-eqb, ne-eqb}
 use Rattle.refusal.specs.Answer.{pick, Answer, given, absent, refused, thenDo, onGiven}
-use Rattle.laws.proofs.Tests.{pick-all}
+use Rattle.laws.proofs.Tests.{by-test, pick-all}
 use Rattle.refusal.specs.Every.{Every}
 use Rattle.laws.proofs.Parts.{length-part}
 use Rattle.tlv.specs.Entries.{Entry, entry}
 use Rattle.tlv.specs.Limits.{framed}
-use Rattle.tlv_last.specs.Last.{lastOf, lastEntry, Spot, spotAt, spot, lastSpot, valueOr, lastValue}
+use Rattle.tlv_last.specs.Last.{lastOf, lastEntry, Spot, spotAt, spot, laterOf, lastSpot, valueOr, lastValue}
 use Rattle.tlv.proofs.Walks.{Lies, framing-lies}
 use Rattle.tlv.proofs.Tally.{Holds, framed-holds}
 
@@ -53,6 +53,11 @@ module _ (ty : ℕ) (best : Answer Spot) (s : List ℕ) (p t a n : ℕ) (inside 
   pub last-miss : (t ≡ ty → ⊥) → lastSpotOf ty best (entry p t a (take n (drop a s)) ∷ es) ≡ lastSpotOf ty best es
   unfolding lastSpotOf
   last-miss h = simp (ne-eqb _ _ h)
+
+  -- both, as the code puts them
+  pub last-turn : lastSpotOf ty best (entry p t a (take n (drop a s)) ∷ es) ≡ lastSpotOf ty (laterOf (pick (eqb t ty) (given (spotAt p a n)) absent) best) es
+  unfolding lastSpotOf
+  last-turn = by-test (eqb t ty) (λ e. simp (e, length-part s a n inside)) (λ e. simp e)
 
 pub last-none : (ty : ℕ) (best : Answer Spot) → lastSpotOf ty best [] ≡ best
 unfolding lastSpotOf

@@ -28,6 +28,12 @@ spotAt p a n = record { place = p; start = a; len = n }
 abbrev pub spot : Entry → Spot
 spot e = spotAt (e .place) (e .start) (length (e .value))
 
+-- for the code's own steps: what is found here, or else what was found before
+abbrev pub laterOf : (here before : Answer Spot) → Answer Spot
+laterOf (given e) b = given e
+laterOf absent b = b
+laterOf (refused n p i) b = refused n p i
+
 unfoldable pub lastSpot : (ty input : ℕ) → List ℕ → Answer Spot
 lastSpot ty i s = onGiven spot (lastEntry ty i s)
 

@@ -3,7 +3,9 @@ use refusal::Refusal;
 use tlv::Counted;
 use tlv::Frame;
 ghost use mathlib.Core.Path.{_≡_};
-ghost use Rattle.tlv_last.specs.Last.{lastSpot, lastValue};
+ghost use lib.Dec.{eqb};
+ghost use Rattle.refusal.specs.Answer.{pick, given, absent};
+ghost use Rattle.tlv_last.specs.Last.{spotAt, laterOf, lastSpot, lastValue};
 ghost use Rattle.tlv_last.specs.Answers.{foundAnswer};
 
 // Where the entry that was asked for lies: its first byte, its value's first byte, its value's length.
@@ -15,6 +17,30 @@ pub enum Found {
     },
     Absent,
     Refused(Refusal),
+}
+
+// The entry that lies there, where its type t is the one that is asked for.
+fn hit(t: u8, ty: u8, place: usize, start: usize, len: usize) -> Found
+    ensures { λ r. ⌜ foundAnswer r ≡ pick (eqb t ty) (given (spotAt place start len)) absent ⌝ }
+{
+    if t == ty {
+        return Found::At {
+            place: place,
+            start: start,
+            len: len,
+        };
+    }
+    Found::Absent
+}
+
+// What is found here, or else what was found before.
+fn later(here: Found, before: Found) -> Found
+    ensures { λ r. ⌜ foundAnswer r ≡ laterOf (foundAnswer here) (foundAnswer before) ⌝ }
+{
+    match here {
+        Found::Absent => before,
+        _ => here,
+    }
 }
 
 // Where the last entry of a type lies in s, which is the caller's input of that number. Refusals: 1, 2, 3.
@@ -32,13 +58,8 @@ pub fn last_entry(s: &[u8], ty: u8, input: u8) -> Found
     loop {
         match tlv::frame_at(s, at) {
             Frame::Entry { ty: t, start, len } => {
-                if t == ty {
-                    best = Found::At {
-                        place: at,
-                        start: start,
-                        len: len,
-                    };
-                }
+                let here = hit(t, ty, at, start, len);
+                best = later(here, best);
                 at = start + len;
             }
             _ => {

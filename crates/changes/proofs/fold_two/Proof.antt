@@ -1,22 +1,24 @@
 -- `changes::fold_two` meets its contract.
 -- Assumes nothing.
-use mathlib.Core.Path.{_≡_, sym, ap, _∙_}
+use mathlib.Core.Path.{_≡_, refl, sym, ap, _∙_}
 use mathlib.Core.Bool.{true}
 use mathlib.Core.List.{List}
 use Prim.Native.Nat.{ℕ, _+_, _*_, _≤_}
 use native.Mathlib.Omega.{arith}
 use lib.ListN.{length}
 use borrow.Author.Needs.{needs}
-use Rattle.refusal.specs.Sizes.{mostBytes}
+use Rattle.refusal.specs.Sizes.{mostBytes, mostEntries}
 use Rattle.refusal.specs.Answer.{given, onGiven}
-use Rattle.laws.proofs.Emits.{emit-refused, emit-no-room, emit-done}
+use Rattle.refusal.specs.Output.{writtenAnswer}
+use Rattle.laws.proofs.Emits.{emit-refused, emit-done}
 use Rattle.change_lists.specs.Operations.{Op, encodeOps, operations}
 use Rattle.change_folds.specs.Fold.{sizedOps, foldedTwo}
 use Rattle.changes.specs.Loops.{opsAfter, chosen, goneBelow, encodeSets}
 use Rattle.change_lists.specs.Answers.{countedOpsAnswer}
 use Rattle.change_lists.proofs.Counts.{counted-short}
 use Rattle.changes.proofs.Removals.{gone-bytes}
-use Rattle.changes.proofs.Results.{put-three, ops-too-long, ops-too-many, ops-fit, fold-refused, fold-second-refused, fold-sized}
+use Rattle.changes.proofs.Rooms.{room-refused, room-given}
+use Rattle.changes.proofs.Results.{put-three, ops-fit, fold-refused, fold-second-refused, fold-sized}
 use Rattle.changes.proofs.Results.{fewest, fewest-bytes, fewest-parts, fewest-length, fewest-count}
 use Rattle.changes.proofs.fold_two.Statement.{statement}
 use Rattle.changes.proofs.fold_two.Tie as tie
@@ -51,6 +53,9 @@ module _ (z : tie.After-folded-extent) where
   abbrev result : List Op
   result = fewest marks (inputs .first) (inputs .second)
 
+  abbrev lent : List ℕ
+  lent = z .before .before .before .before .before .before .before .before .before .before .before .before .args .out .now
+
   is-sized : foldedTwo (inputs .first) (inputs .second) ≡ sizedOps result
   is-sized =
       let c = z .before .before .before in
@@ -79,6 +84,14 @@ module _ (z : tie.After-folded-extent) where
 
   threes : length removals ≡ 3 * length (goneBelow 256 marks)
   threes = gone-bytes marks 256
+
+-- and once the result is found to keep the sizes and to have room
+module _ (e : tie.After-enum-told3) where
+  abbrev measured : tie.After-folded-extent
+  measured = e .before .before .before
+
+  fits : (length (encodeOps (result measured)) ≤ mostBytes) × (length (result measured) ≤ mostEntries) × (length (encodeOps (result measured)) ≤ length (lent measured))
+  fits = rw (bytes measured, number measured) (room-given _ _ _ _ (sym (ap writtenAnswer (e .enum-told3 .given .1)) ∙ e .before .before .room-for .ensures))
 
 count-operations-requires : tie.Need-count-operations-requires
 count-operations-requires c κs = search needs
@@ -120,79 +133,65 @@ mark-requires-2 c κs = (c .mark .ensures .full, short-second (c .before), short
 folded-extent-requires : tie.Need-folded-extent-requires
 folded-extent-requires c κs = (short (c .before .before), short-second (c .before .before))
 
-refuse-requires : tie.Need-refuse-requires
-refuse-requires c κs = search needs
+room-for-requires : tie.Need-room-for-requires
+room-for-requires c κs = search needs
+
+enum-known-r-3 : tie.Need-enum-known-r-3
+enum-known-r-3 c = search needs
 
 returns-3 : tie.Need-returns-3
+unfolding sizedOps
 returns-3 c =
-    let z = c .before .before in
-    rw (c .refuse .ensures) (emit-refused _ _ _ _ _ (ops-too-long (result z) (omega (arith, bytes z, c .before .if1 .taken)) ∙ sym (is-sized z)))
+    let f = c .before .before .before in
+    let z = f .before in
+    let told = sym (ap writtenAnswer (c .before .r3 .given .1)) ∙ f .room-for .ensures in
+    rw (is-sized z) (room-refused (encodeOps (result z)) (lent z) (length (result z)) _ _ _ (bytes z) (number z) refl _ _ _ told)
 
-refuse-requires-2 : tie.Need-refuse-requires-2
-refuse-requires-2 c κs = search needs
-
-returns-4 : tie.Need-returns-4
-returns-4 c =
-    let e1 = c .before .before .before in
-    let z = e1 .before in
-    rw (c .refuse2 .ensures)
-    (emit-refused _ _ _ _ _ (ops-too-many (result z) (omega (arith, bytes z, e1 .if1 .left)) (omega (arith, number z, c .before .if2 .taken)) ∙ sym (is-sized z)))
-
-refuse-requires-3 : tie.Need-refuse-requires-3
-refuse-requires-3 c κs = search needs
-
-returns-5 : tie.Need-returns-5
-returns-5 c =
-    let e2 = c .before .before in
-    let e1 = e2 .before .before in
-    let z = e1 .before in
-    let fits = is-sized z ∙ ops-fit (result z) (omega (arith, bytes z, e1 .if1 .left)) (omega (arith, number z, e2 .if2 .left)) in
-    rw (c .refuse3 .ensures) (emit-no-room _ _ _ fits (omega (arith, bytes z, c .before .if3 .taken)))
+enum-told-3 : tie.Need-enum-told-3
+enum-told-3 c = search needs
 
 put-removals-requires : tie.Need-put-removals-requires
 put-removals-requires c κs =
-    let e3 = c .before in
-    let z = e3 .before .before .before .before in
-    omega (arith, bytes z, parts z, threes z, e3 .if3 .left)
+    let e = c .before in
+    let z = measured e in
+    omega (arith, bytes z, parts z, threes z, fits e)
 
 put-chosen-requires : tie.Need-put-chosen-requires
 put-chosen-requires c κs =
     let p = c .before .before .before in
-    let e3 = p .before .before in
-    let z = e3 .before .before .before .before in (
-      short (z .before .before .before),
-      search needs,
-      omega (arith, bytes z, parts z, e3 .if3 .left, p .put-removals .ensures .0, p .put-removals .kept .1 .0),
+    let e = p .before .before in
+    let z = measured e in (
+      omega (arith, short (z .before .before .before), short-second (z .before .before .before)),
+      omega (arith, short (z .before .before .before)),
+      omega (arith, bytes z, parts z, fits e, p .put-removals .ensures .0, p .put-removals .kept .1 .0),
     )
 
 put-chosen-requires-2 : tie.Need-put-chosen-requires-2
 put-chosen-requires-2 c κs =
     let q = c .before .before .before in
     let p = q .before .before .before .before in
-    let e3 = p .before .before in
-    let z = e3 .before .before .before .before in (
-      short-second (z .before .before .before),
-      short (z .before .before .before),
-      omega (arith, bytes z, parts z, e3 .if3 .left, p .put-removals .ensures .0, p .put-removals .kept .1 .0, q .put-chosen .ensures .0, q .put-chosen .kept .1 .1 .1 .1 .0),
+    let e = p .before .before in
+    let z = measured e in (
+      omega (arith, short (z .before .before .before), short-second (z .before .before .before)),
+      omega (arith, short (z .before .before .before)),
+      omega (arith, bytes z, parts z, fits e, p .put-removals .ensures .0, p .put-removals .kept .1 .0, q .put-chosen .ensures .0, q .put-chosen .kept .1 .1 .1 .1 .0),
     )
 
 same-length : tie.Need-same-length
 same-length c = search needs
 
-returns-6 : tie.Need-returns-6
-returns-6 c =
+returns-4 : tie.Need-returns-4
+returns-4 c =
     let k = c .before .before in
     let q = k .before .before .before .before in
     let p = q .before .before .before .before in
-    let e3 = p .before .before in
-    let e2 = e3 .before in
-    let e1 = e2 .before .before in
-    let z = e1 .before in
-    emit-done _ _ _ (is-sized z ∙ ops-fit (result z) (omega (arith, bytes z, e1 .if1 .left)) (omega (arith, number z, e2 .if2 .left))) _ _
+    let e = p .before .before in
+    let z = measured e in
+    emit-done _ _ _ (is-sized z ∙ ops-fit (result z) (fits e .0) (fits e .1)) _ _
     (omega (arith, parts z, k .put-chosen2 .ensures .0, q .put-chosen .ensures .0, p .put-removals .ensures .0))
     (put-three _ _ _ _ _ _ _ (sets z) (sets-second z) _ (p .put-removals .ensures .1) (p .put-removals .ensures .0) (q .put-chosen .ensures .1) (q .put-chosen .ensures .0)
     (k .put-chosen2 .ensures .1) (fewest-bytes _ _ _))
-    (omega (arith, bytes z, e3 .if3 .left))
+    (fits e .2)
 
 pub fold-two-spec : {M : Type 1} → statement M
 fold-two-spec =
@@ -209,14 +208,12 @@ fold-two-spec =
     mark-requires
     mark-requires-2
     folded-extent-requires
-    refuse-requires
+    room-for-requires
+    enum-known-r-3
     returns-3
-    refuse-requires-2
-    returns-4
-    refuse-requires-3
-    returns-5
+    enum-told-3
     put-removals-requires
     put-chosen-requires
     put-chosen-requires-2
     same-length
-    returns-6)
+    returns-4)

@@ -1,53 +1,61 @@
 -- `changes::run` meets its contract.
 -- Assumes nothing.
-use mathlib.Core.Path.{_≡_, sym, ap, _∙_}
+use mathlib.Core.Path.{_≡_, refl, sym, ap, _∙_}
 use mathlib.Core.Bool.{false}
 use mathlib.Core.List.{List}
 use Prim.Native.Nat.{ℕ, _+_, _≤_}
 use native.Mathlib.Omega.{arith}
 use lib.ListN.{length}
 use borrow.Author.Needs.{needs}
-use Rattle.refusal.specs.Sizes.{mostBytes}
-use Rattle.refusal.specs.Answer.{given, onGiven}
-use Rattle.laws.proofs.Emits.{emit-refused, emit-no-room, emit-done}
+use Rattle.refusal.specs.Sizes.{mostBytes, mostEntries}
+use Rattle.refusal.specs.Answer.{onGiven, thenDo}
+use Rattle.refusal.specs.Output.{writtenAnswer}
+use Rattle.laws.proofs.Emits.{emit-refused, emit-done}
 use Rattle.tlv.specs.Entries.{Content, contents, framing}
 use Rattle.tlv.specs.Limits.{count}
 use Rattle.tlv_writing.specs.Encode.{encodeAll, sized}
 use Rattle.tlv.specs.Answers.{countedAnswer}
 use Rattle.tlv.proofs.Tally as tally
-use Rattle.tlv_writing.proofs.Several.{sized-bytes, sized-count, sized-is}
+use Rattle.tlv_writing.proofs.Several.{sized-is}
 use Rattle.change_lists.specs.Operations.{operations}
 use Rattle.change_folds.specs.Run.{ran}
 use Rattle.changes.specs.Loops.{opsAfter, spared, chosen, encodeSets}
-use Rattle.change_lists.specs.Answers.{countedOpsAnswer}
 use Rattle.change_lists.proofs.Counts.{counted-short}
-use Rattle.changes.proofs.Results.{put-both, left, run-refused, run-list-refused, run-sized, left-bytes, left-spared, left-chosen, left-length, left-count}
+use Rattle.changes.proofs.Rooms.{room-refused, room-given}
+use Rattle.changes.proofs.Results.{put-both, left, Both, both-given, run-fault, run-sized, left-bytes, left-spared, left-chosen, left-length, left-count}
 use Rattle.changes.proofs.run.Statement.{statement}
 use Rattle.changes.proofs.run.Tie as tie
 
--- what is known once both inputs are counted
-module _ (c : tie.After-enum-told2) where
+-- what the two counts say together
+module _ (f : tie.After-first-fault) where
   abbrev args : record { dataset : List ℕ; list : List ℕ }
   args =
-      let a = c .before .before .before .before .before .before .before .before .before .args in
+      let a = f .before .before .before .before .before .before .before .args in
       record { dataset = a .dataset .now; list = a .list .now }
 
-  counted : given (c .before .before .before .enum-told .given .0 .0) ≡ count 0 (args .dataset)
-  counted = let e = c .before .before .before in sym (ap countedAnswer (e .enum-told .given .1)) ∙ e .before .before .count-entries .ensures
+  told : countedAnswer (f .first-fault .result) ≡ thenDo (count 0 (args .dataset)) (λ (n : ℕ). onGiven length (operations 1 (args .list)))
+  told =
+      let o = f .before .before in
+      f .first-fault .ensures ∙ simp (o .before .count-entries .ensures, f .before .as-count .ensures, o .count-operations .ensures)
 
-  listed : given (c .enum-told2 .given .0 .0) ≡ onGiven length (operations 1 (args .list))
-  listed = sym (ap countedOpsAnswer (c .enum-told2 .given .1)) ∙ c .before .before .count-operations .ensures
+-- what is known once neither has a fault
+module _ (c : tie.After-enum-told) where
+  abbrev of : record { dataset : List ℕ; list : List ℕ }
+  of = args (c .before .before)
 
-  short : length (args .dataset) ≤ mostBytes
-  short = tally.counted-short _ _ _ counted
+  both : Both (count 0 (of .dataset)) (onGiven length (operations 1 (of .list))) (c .enum-told .given .0 .0)
+  both = both-given _ _ _ (sym (ap countedAnswer (c .enum-told .given .1)) ∙ told (c .before .before))
 
-  short-list : length (args .list) ≤ mostBytes
-  short-list = counted-short _ _ _ listed
+  short : length (of .dataset) ≤ mostBytes
+  short = tally.counted-short _ _ _ (both .one)
+
+  short-list : length (of .list) ≤ mostBytes
+  short-list = counted-short _ _ _ (both .two)
 
 -- and once the parts of the result are measured
 module _ (z : tie.After-chosen-extent) where
   abbrev inputs : record { dataset : List ℕ; list : List ℕ }
-  inputs = args (z .before .before .before)
+  inputs = of (z .before .before .before)
 
   abbrev marks : List ℕ
   marks = z .before .before .mark .result
@@ -55,10 +63,13 @@ module _ (z : tie.After-chosen-extent) where
   abbrev result : List Content
   result = left marks (inputs .dataset) (inputs .list)
 
+  abbrev lent : List ℕ
+  lent = z .before .before .before .before .before .before .before .before .before .before .before .before .args .out .now
+
   is-sized : ran (inputs .dataset) (inputs .list) ≡ sized result
   is-sized =
       let c = z .before .before .before in
-      run-sized _ _ _ (counted c) _ (listed c)
+      run-sized _ _ _ (both c .one) _ (both c .two)
       (λ i. c .before .before .before .before .before .before .before .shared-slice-known2 .given i .fits) _ (z .before .before .mark .ensures)
 
   bytes : length (encodeAll result) ≡ z .before .spared-extent .result .bytes + z .chosen-extent .result .bytes
@@ -77,36 +88,34 @@ module _ (z : tie.After-chosen-extent) where
   chosen-size : z .chosen-extent .result .bytes ≡ length sets
   chosen-size = left-chosen marks (inputs .dataset) (inputs .list) _ _ (z .before .spared-extent .ensures .0) (z .chosen-extent .ensures .0)
 
+-- and once the result is found to keep the sizes and to have room
+module _ (e : tie.After-enum-told2) where
+  abbrev measured : tie.After-chosen-extent
+  measured = e .before .before .before .before .before .before .before
+
+  fits : (length (encodeAll (result measured)) ≤ mostBytes) × (length (result measured) ≤ mostEntries) × (length (encodeAll (result measured)) ≤ length (lent measured))
+  fits = rw (bytes measured, number measured) (room-given _ _ _ _ (sym (ap writtenAnswer (e .enum-told2 .given .1)) ∙ e .before .before .room-for .ensures))
+
 count-entries-requires : tie.Need-count-entries-requires
 count-entries-requires c κs = search needs
+
+count-operations-requires : tie.Need-count-operations-requires
+count-operations-requires c κs = search needs
+
+as-count-requires : tie.Need-as-count-requires
+as-count-requires c κs = search needs
+
+first-fault-requires : tie.Need-first-fault-requires
+first-fault-requires c κs = search needs
 
 enum-known-r : tie.Need-enum-known-r
 enum-known-r c = search needs
 
 returns : tie.Need-returns
-returns c =
-    let told = sym (ap countedAnswer (c .before .r .given .1)) ∙ c .before .before .before .count-entries .ensures in
-    emit-refused _ _ _ _ _ (run-refused _ _ _ _ _ told)
+returns c = emit-refused _ _ _ _ _ (run-fault _ _ _ _ _ (sym (ap countedAnswer (c .before .r .given .1)) ∙ told (c .before .before .before)))
 
 enum-told : tie.Need-enum-told
 enum-told c = search needs
-
-count-operations-requires : tie.Need-count-operations-requires
-count-operations-requires c κs = search needs
-
-enum-known-r-2 : tie.Need-enum-known-r-2
-enum-known-r-2 c = search needs
-
-returns-2 : tie.Need-returns-2
-returns-2 c =
-    let o = c .before .before .before in
-    let e = o .before in
-    let first = sym (ap countedAnswer (e .enum-told .given .1)) ∙ e .before .before .count-entries .ensures in
-    let told = sym (ap countedOpsAnswer (c .before .r2 .given .1)) ∙ o .count-operations .ensures in
-    emit-refused _ _ _ _ _ (run-list-refused _ _ _ first _ _ _ told)
-
-enum-told-2 : tie.Need-enum-told-2
-enum-told-2 c = search needs
 
 mark-requires : tie.Need-mark-requires
 mark-requires c κs = (search needs, short-list c, search needs)
@@ -120,93 +129,77 @@ chosen-extent-requires c κs = (short-list (c .before .before), search needs)
 add-need : tie.Need-add-need
 add-need c = search needs
 
-refuse-requires : tie.Need-refuse-requires
-refuse-requires c κs = search needs
+add-number : tie.Need-add-number
+add-number c = search needs
 
-returns-3 : tie.Need-returns-3
-returns-3 c =
-    let z = c .before .before .before .before in
-    rw (c .refuse .ensures) (emit-refused _ _ _ _ _ (sized-bytes (result z) (omega (arith, bytes z, c .before .if1 .taken)) ∙ sym (is-sized z)))
+room-for-requires : tie.Need-room-for-requires
+room-for-requires c κs = search needs
 
-add-if2 : tie.Need-add-if2
-add-if2 c = search needs
+enum-known-r-2 : tie.Need-enum-known-r-2
+enum-known-r-2 c = search needs
 
-refuse-requires-2 : tie.Need-refuse-requires-2
-refuse-requires-2 c κs = search needs
+returns-2 : tie.Need-returns-2
+unfolding sized
+returns-2 c =
+    let f = c .before .before .before in
+    let z = f .before .before .before .before .before in
+    let told = sym (ap writtenAnswer (c .before .r2 .given .1)) ∙ f .room-for .ensures in
+    rw (is-sized z) (room-refused (encodeAll (result z)) (lent z) (length (result z)) _ _ _ (bytes z) (number z) refl _ _ _ told)
 
-returns-4 : tie.Need-returns-4
-returns-4 c =
-    let e1 = c .before .before .before .before in
-    let z = e1 .before .before .before in
-    rw (c .refuse2 .ensures)
-    (emit-refused _ _ _ _ _ (sized-count (result z) (omega (arith, bytes z, e1 .if1 .left)) (omega (arith, number z, c .before .if2 .taken)) ∙ sym (is-sized z)))
-
-refuse-requires-3 : tie.Need-refuse-requires-3
-refuse-requires-3 c κs = search needs
-
-returns-5 : tie.Need-returns-5
-returns-5 c =
-    let e2 = c .before .before in
-    let e1 = e2 .before .before .before in
-    let z = e1 .before .before .before in
-    let fits = is-sized z ∙ sized-is (result z) (omega (arith, bytes z, e1 .if1 .left)) (omega (arith, number z, e2 .if2 .left)) in
-    rw (c .refuse3 .ensures) (emit-no-room _ _ _ fits (omega (arith, bytes z, c .before .if3 .taken)))
+enum-told-2 : tie.Need-enum-told-2
+enum-told-2 c = search needs
 
 put-spared-requires : tie.Need-put-spared-requires
 put-spared-requires c κs =
-    let z = c .before .before .before .before .before .before .before .before in
-    (short (z .before .before .before), omega (arith, spared-size z, c .before .if3 .left))
+    let e = c .before in
+    let z = measured e in
+    (short (z .before .before .before), omega (arith, bytes z, spared-size z, fits e))
 
 put-chosen-requires : tie.Need-put-chosen-requires
 put-chosen-requires c κs =
     let p = c .before .before .before in
-    let e3 = p .before .before in
-    let z = e3 .before .before .before .before .before .before .before in (
+    let e = p .before .before in
+    let z = measured e in (
       short-list (z .before .before .before),
       search needs,
-      omega (arith, spared-size z, chosen-size z, e3 .if3 .left, p .put-spared .ensures .0, p .put-spared .kept .1 .1 .0),
+      omega (arith, bytes z, spared-size z, chosen-size z, fits e, p .put-spared .ensures .0, p .put-spared .kept .1 .1 .0),
     )
 
 same-length : tie.Need-same-length
 same-length c = search needs
 
-returns-6 : tie.Need-returns-6
-returns-6 c =
+returns-3 : tie.Need-returns-3
+returns-3 c =
     let k = c .before .before in
     let p = k .before .before .before .before in
-    let e3 = p .before .before in
-    let e2 = e3 .before in
-    let e1 = e2 .before .before .before in
-    let z = e1 .before .before .before in
-    emit-done _ _ _ (is-sized z ∙ sized-is (result z) (omega (arith, bytes z, e1 .if1 .left)) (omega (arith, number z, e2 .if2 .left))) _ _
+    let e = p .before .before in
+    let z = measured e in
+    emit-done _ _ _ (is-sized z ∙ sized-is (result z) (fits e .0) (fits e .1)) _ _
     (omega (arith, bytes z, spared-size z, chosen-size z, k .put-chosen .ensures .0, p .put-spared .ensures .0))
     (put-both _ _ _ _ _ (sets z) _ (p .put-spared .ensures .1) (p .put-spared .ensures .0) (k .put-chosen .ensures .1) (left-bytes _ _ _))
-    (omega (arith, bytes z, e3 .if3 .left))
+    (fits e .2)
 
 pub run-spec : {M : Type 1} → statement M
 run-spec =
     tie.close
     (tie.spec
     count-entries-requires
+    count-operations-requires
+    as-count-requires
+    first-fault-requires
     enum-known-r
     returns
     enum-told
-    count-operations-requires
-    enum-known-r-2
-    returns-2
-    enum-told-2
     mark-requires
     spared-extent-requires
     chosen-extent-requires
     add-need
-    refuse-requires
-    returns-3
-    add-if2
-    refuse-requires-2
-    returns-4
-    refuse-requires-3
-    returns-5
+    add-number
+    room-for-requires
+    enum-known-r-2
+    returns-2
+    enum-told-2
     put-spared-requires
     put-chosen-requires
     same-length
-    returns-6)
+    returns-3)

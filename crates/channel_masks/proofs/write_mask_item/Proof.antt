@@ -10,13 +10,13 @@ use Rattle.channel_masks.proofs.write_mask_item.Statement.{statement}
 use Rattle.channel_masks.proofs.write_mask_item.Tie as tie
 
 returns : tie.Need-returns
-returns c = emit-refused _ _ _ _ _ (item-too-long _ _ (c .if1 .taken))
+returns c = emit-refused _ _ _ _ _ (item-too-long _ _ (omega arith))
 
 add-if2 : tie.Need-add-if2
 add-if2 c = search needs
 
 returns-2 : tie.Need-returns-2
-returns-2 c = emit-no-room _ _ _ (item-fits _ _ (c .before .if1 .left)) (omega arith)
+returns-2 c = emit-no-room _ _ _ (item-fits _ _ (omega arith)) (omega arith)
 
 slice-write-out : tie.Need-slice-write-out
 slice-write-out c = search needs
@@ -37,7 +37,7 @@ returns-3 : tie.Need-returns-3
 returns-3 c =
     let k = c .before .before in
     let z = k .before .before in
-    item-emitted _ _ _ _ _ (k .put-bytes .ensures) (z .before .if1 .left) (z .if2 .left)
+    item-emitted _ _ _ _ _ (k .put-bytes .ensures) (omega arith) (omega arith)
 
 pub write-mask-item-spec : {M : Type 1} → statement M
 write-mask-item-spec =

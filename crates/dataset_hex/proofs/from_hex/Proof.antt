@@ -14,8 +14,8 @@ slice-aggregate-decode c = search needs
 decode-requires : tie.Need-decode-requires
 decode-requires c κs = search needs
 
-enum-known-r : tie.Need-enum-known-r
-enum-known-r c = search needs
+enum-known-why : tie.Need-enum-known-why
+enum-known-why c = search needs
 
 enum-known-n : tie.Need-enum-known-n
 enum-known-n c = search needs
@@ -38,7 +38,7 @@ returns : tie.Need-returns
 returns c =
     let t = c .before in
     let d = t .before .before .before in
-    emit-refused _ _ _ _ _ (from-hex-refused _ _ _ (search needs) _ _ _ (rw (t .r .given .1) at (d .decode .ensures)))
+    emit-refused _ _ _ _ _ (from-hex-refused _ _ _ (search needs) _ _ _ (rw (t .why .given .1) at (d .decode .ensures)))
 
 same-length : tie.Need-same-length
 same-length c = search needs
@@ -56,7 +56,7 @@ from-hex-spec =
     (tie.spec
     slice-aggregate-decode
     decode-requires
-    enum-known-r
+    enum-known-why
     enum-known-n
     sub-framed-copy
     part-framed-copy-start

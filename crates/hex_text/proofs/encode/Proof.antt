@@ -29,7 +29,7 @@ returns-2 : tie.Need-returns-2
 returns-2 c =
     let p = c .before .before in
     let a = p .before .before .before .before .before .args in
-    emit-done _ _ _ refl _ _ (sym (length-text _)) (p .put-text .ensures) (omega (arith, length-text (a .bytes .now)))
+    emit-done _ _ _ refl _ _ (omega (arith, length-text (a .bytes .now))) (p .put-text .ensures) (omega (arith, length-text (a .bytes .now)))
 
 pub encode-spec : {M : Type 1} → statement M
 encode-spec =

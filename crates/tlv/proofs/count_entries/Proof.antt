@@ -39,28 +39,28 @@ frame-at-requires c κs = tt
 enum-told : tie.Need-enum-told Inv-loop μ-loop
 enum-told c = search needs
 
-ended-requires : tie.Need-ended-requires Inv-loop μ-loop
-ended-requires c κs = tt
+stopped-requires : tie.Need-stopped-requires Inv-loop μ-loop
+stopped-requires c κs = tt
 
 returns-2 : tie.Need-returns-2 Inv-loop μ-loop
 returns-2 c =
     let h = c .before .before .before in
     let end = turn-end _ _ _ (h .frame-at .ensures) (c .before .enum-told .given .1) in
     let goes-on = ap (tally _ _ _) (sym end) ∙ h .before .loop .inv .2 in
-    c .ended .ensures ∙ (sym (tally-end _ _ _) ∙ goes-on)
+    c .stopped .ensures ∙ (sym (tally-end _ _ _) ∙ goes-on)
 
 enum-told-2 : tie.Need-enum-told-2 Inv-loop μ-loop
 enum-told-2 c = search needs
 
-ended-requires-2 : tie.Need-ended-requires-2 Inv-loop μ-loop
-ended-requires-2 c κs = tt
+stopped-requires-2 : tie.Need-stopped-requires-2 Inv-loop μ-loop
+stopped-requires-2 c κs = tt
 
 returns-3 : tie.Need-returns-3 Inv-loop μ-loop
 returns-3 c =
     let h = c .before .before .before in
     let cut = turn-cut _ _ _ (h .frame-at .ensures) (c .before .enum-told2 .given .1) in
     let goes-on = ap (tally _ _ _) (sym cut) ∙ h .before .loop .inv .2 in
-    c .ended2 .ensures ∙ (sym (tally-cut _ _ _ _) ∙ goes-on)
+    c .stopped2 .ensures ∙ (sym (tally-cut _ _ _ _) ∙ goes-on)
 
 enum-known-start : tie.Need-enum-known-start Inv-loop μ-loop
 enum-known-start c = search needs
@@ -107,10 +107,10 @@ count-entries-spec =
     loop-holds
     frame-at-requires
     enum-told
-    ended-requires
+    stopped-requires
     returns-2
     enum-told-2
-    ended-requires-2
+    stopped-requires-2
     returns-3
     enum-known-start
     add-n

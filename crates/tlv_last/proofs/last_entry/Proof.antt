@@ -2,7 +2,6 @@
 -- The measure is what is left of the input.
 -- Assumes nothing.
 use mathlib.Core.Path.{_≡_, sym, ap, _∙_}
-use mathlib.Core.Logic.{⊎-elim}
 use Prim.Native.Nat.{_-_, _≤_}
 use native.Mathlib.Omega.{arith}
 use lib.ListN.{length}
@@ -12,7 +11,7 @@ use Rattle.tlv.specs.Answers.{countedAnswer}
 use Rattle.tlv_last.specs.Answers.{foundAnswer}
 use Rattle.tlv.proofs.Walks.{from, turn-entries, turn-none, turn-inside}
 use Rattle.tlv.proofs.Tally.{counted-given, counted-refused}
-use Rattle.tlv_last.proofs.Lasts.{lastSpotOf, spot-then, last-hit, last-miss, last-none}
+use Rattle.tlv_last.proofs.Lasts.{lastSpotOf, spot-then, last-turn, last-none}
 use Rattle.tlv_last.proofs.last_entry.Statement.{statement}
 use Rattle.tlv_last.proofs.last_entry.Tie as tie
 
@@ -48,24 +47,30 @@ frame-at-requires c κs = tt
 enum-known-t : tie.Need-enum-known-t Inv-loop μ-loop
 enum-known-t c = search needs
 
+hit-requires : tie.Need-hit-requires Inv-loop μ-loop
+hit-requires c κs = tt
+
+later-requires : tie.Need-later-requires Inv-loop μ-loop
+later-requires c κs = tt
+
+-- t is the place where the arm has bound the entry's fields, and h where `frame_at` has returned
 add-at : tie.Need-add-at Inv-loop μ-loop
-add-at c = omega (arith, turn-inside _ _ _ (c .before .before .before .before .frame-at .ensures) _ _ _ (c .before .before .t .given .1))
+add-at c =
+    let t = c .before .before .before in
+    omega (arith, turn-inside _ _ _ (t .before .before .frame-at .ensures) _ _ _ (t .t .given .1))
 
 loop-less : tie.Need-loop-less Inv-loop μ-loop
-loop-less c = omega (arith, turn-inside _ _ _ (c .before .before .before .before .frame-at .ensures) _ _ _ (c .before .before .t .given .1))
+loop-less c =
+    let t = c .before .before .before in
+    omega (arith, turn-inside _ _ _ (t .before .before .frame-at .ensures) _ _ _ (t .t .given .1))
 
 loop-again : tie.Need-loop-again Inv-loop μ-loop
 loop-again c =
-    let t = c .before .before in
+    let t = c .before .before .before in
     let h = t .before .before in
     let inside = turn-inside _ _ _ (h .frame-at .ensures) _ _ _ (t .t .given .1) .1 in
-    let goes-on = ap (lastSpotOf _ _) (sym (turn-entries _ _ _ (h .frame-at .ensures) _ _ _ (t .t .given .1))) ∙ h .before .loop .inv .1 in (
-      inside,
-      ⊎-elim
-          (λ w. rw (w .1) (sym (last-hit _ _ _ _ _ _ _ inside _ (w .0 .taken)) ∙ goes-on))
-          (λ w. rw (w .1) (sym (last-miss _ _ _ _ _ _ _ inside _ (w .0 .left)) ∙ goes-on))
-          (c .if1 .came),
-    )
+    let goes-on = ap (lastSpotOf _ _) (sym (turn-entries _ _ _ (h .frame-at .ensures) _ _ _ (t .t .given .1))) ∙ h .before .loop .inv .1 in
+    (inside, rw (c .later .ensures, c .before .hit .ensures) (sym (last-turn _ _ _ _ _ _ _ inside _) ∙ goes-on))
 
 returns-2 : tie.Need-returns-2 Inv-loop μ-loop
 returns-2 c =
@@ -85,6 +90,8 @@ last-entry-spec =
     loop-holds
     frame-at-requires
     enum-known-t
+    hit-requires
+    later-requires
     add-at
     loop-less
     loop-again

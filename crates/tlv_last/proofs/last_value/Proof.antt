@@ -5,7 +5,7 @@ use mathlib.Core.List.{[], _∷_}
 use mathlib.Core.Logic.{⊎-elim}
 use Prim.Native.Nat.{ℕ}
 use native.Mathlib.Omega.{arith}
-use native.Mathlib.Nat.{add-sub-cancel-left}
+use native.Mathlib.Nat.{add-sub-cancel-left, add-sub-cancel}
 use types.Run.{OneOf}
 use denote.Enum.Declared.{tagOf}
 use Rattle.refusal.specs.Answer.{given}
@@ -49,7 +49,7 @@ slice-aggregate-result c = search needs
 returns : tie.Need-returns
 returns c =
     let t = c .before .before in
-    rw add-sub-cancel-left (spot-part _ _ _ _ _ (sym (ap foundAnswer (t .start .given .1)) ∙ t .before .before .last-entry .ensures) .1)
+    simp (add-sub-cancel-left, add-sub-cancel) (spot-part _ _ _ _ _ (sym (ap foundAnswer (t .start .given .1)) ∙ t .before .before .last-entry .ensures) .1)
 
 returns-2 : tie.Need-returns-2
 returns-2 c =

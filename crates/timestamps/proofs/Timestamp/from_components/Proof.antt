@@ -1,6 +1,6 @@
 -- `timestamps::Timestamp::from_components` meets its contract: the definition in each of the bit's two cases.
 -- Assumes nothing.
-use native.Mathlib.Nat.{add-zero}
+use native.Mathlib.Omega.{arith}
 use borrow.Author.Needs.{needs}
 use Rattle.timestamps.proofs.Timestamp.from_components.Statement.{statement}
 use Rattle.timestamps.proofs.Timestamp.from_components.Tie as tie
@@ -21,10 +21,10 @@ add-t11 : tie.Need-add-t11
 add-t11 c = search needs
 
 returns : tie.Need-returns
-returns c = rw (c .if1 .taken)
+returns c = rw (c .if1 .taken) (omega arith)
 
 returns-2 : tie.Need-returns-2
-returns-2 c = rw (c .if1 .left, add-zero)
+returns-2 c = rw (c .if1 .left) (omega arith)
 
 pub from-components-spec : {M : Type 1} → statement M
 from-components-spec =

@@ -1,12 +1,12 @@
--- `tlv::ended` meets its contract, by its two tests.
+-- `tlv::stopped` meets its contract, by its two tests.
 -- Assumes nothing.
 use mathlib.Core.Path.{_∙_}
 use native.Mathlib.Omega.{arith}
 use borrow.Author.Tests.{lt-ltb, le-ltb}
 use Rattle.refusal.specs.Sizes.{mostEntries}
 use borrow.Author.Needs.{needs}
-use Rattle.tlv.proofs.ended.Statement.{statement}
-use Rattle.tlv.proofs.ended.Tie as tie
+use Rattle.tlv.proofs.stopped.Statement.{statement}
+use Rattle.tlv.proofs.stopped.Tie as tie
 
 refuse-requires : tie.Need-refuse-requires
 refuse-requires c κs = search needs
@@ -23,5 +23,5 @@ returns-2 c = c .refuse2 .ensures ∙ simp (c .before .before .if1 .left, c .bef
 returns-3 : tie.Need-returns-3
 returns-3 c = simp (c .before .if1 .left, c .if2 .left)
 
-pub ended-spec : {M : Type 1} → statement M
-ended-spec = tie.close (tie.spec refuse-requires returns refuse-requires-2 returns-2 returns-3)
+pub stopped-spec : {M : Type 1} → statement M
+stopped-spec = tie.close (tie.spec refuse-requires returns refuse-requires-2 returns-2 returns-3)
