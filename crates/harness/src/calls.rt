@@ -3,38 +3,45 @@
 // To add a call: where its answer is what it writes into an output whose size is its last word, one `if` in its topic's group of
 // `..._calls` of `edit_texts`; where its answer is a text of its own, one in its topic's module of `..._texts`. A new group is
 // asked by the last one. Such a function needs no proof file unless it has a loop. A request that no group knows is a bad request.
+use crate::built_texts;
+use crate::dataset_texts;
+use crate::diag_texts;
+use crate::edit_texts;
+use crate::entry_texts;
+use crate::network_texts;
 use crate::requests::Values;
 use crate::requests::read;
 use crate::rooms::Lent;
 use crate::texts::Room;
+use crate::value_texts;
 
 // A longer line is no request.
 pub(crate) const LONGEST_LINE: usize = 600000;
 
 // Calls on diagnostic payloads and their values: the place after the text, or `at` where the request is for none of them.
 fn diagnostic_texts(request: &Room, v: Values, text: &mut Room, at: usize) -> usize {
-    let value = crate::value_texts::answer(request, v, text, at);
+    let value = value_texts::answer(request, v, text, at);
     if value != at {
         return value;
     }
-    let network = crate::network_texts::answer(request, v, text, at);
+    let network = network_texts::answer(request, v, text, at);
     if network != at {
         return network;
     }
-    crate::diag_texts::answer(request, v, text, at)
+    diag_texts::answer(request, v, text, at)
 }
 
 // Calls that put a text of their own.
 fn text_calls(request: &Room, v: Values, text: &mut Room, at: usize) -> usize {
-    let entry = crate::entry_texts::answer(request, v, text, at);
+    let entry = entry_texts::answer(request, v, text, at);
     if entry != at {
         return entry;
     }
-    let dataset = crate::dataset_texts::answer(request, v, text, at);
+    let dataset = dataset_texts::answer(request, v, text, at);
     if dataset != at {
         return dataset;
     }
-    let built = crate::built_texts::answer(request, v, text, at);
+    let built = built_texts::answer(request, v, text, at);
     if built != at {
         return built;
     }
@@ -57,5 +64,5 @@ pub(crate) fn put_call(
     if end != at {
         return end;
     }
-    crate::edit_texts::answer(arena, v, out, text, at)
+    edit_texts::answer(arena, v, out, text, at)
 }

@@ -22,6 +22,16 @@ pub(crate) fn part_of<'a>(s: &'a [u8], start: usize, end: usize) -> &'a [u8] {
     &s[..0]
 }
 
+// The len bytes of s from start on, or no bytes where s has no such part.
+pub(crate) fn part<'a>(s: &'a [u8], start: usize, len: usize) -> &'a [u8] {
+    if start <= s.len() {
+        if len <= s.len() - start {
+            return part_of(s, start, start + len);
+        }
+    }
+    part_of(s, 0, 0)
+}
+
 // Whether two texts are the same.
 pub(crate) fn same(a: &[u8], b: &[u8]) -> bool {
     if a.len() != b.len() {

@@ -8,7 +8,6 @@ use crate::requests::Values;
 use crate::requests::asks;
 use crate::texts::Room;
 use crate::texts::digit;
-use crate::texts::part_of;
 use crate::texts::put_byte;
 use crate::texts::put_hex;
 use crate::texts::put_marked;
@@ -122,16 +121,6 @@ pub(crate) fn put_route64_head(text: &mut Room, at: usize, route: Route64) -> us
     let first = put_byte(text, sequence, b',');
     let bytes = put_hex(text, first, &mask);
     put_byte(text, bytes, b',')
-}
-
-// The len bytes of s from start on, or no bytes where s has no such part.
-pub(crate) fn part<'a>(s: &'a [u8], start: usize, len: usize) -> &'a [u8] {
-    if start <= s.len() {
-        if len <= s.len() - start {
-            return part_of(s, start, start + len);
-        }
-    }
-    part_of(s, 0, 0)
 }
 
 // The first n rows, or `-` for none.

@@ -1,12 +1,12 @@
 // The fields of a payload's record, types ascending.
 use crate::network_texts::Table;
 use crate::texts::Room;
+use crate::texts::part;
 use crate::texts::put_byte;
 use crate::texts::put_hex;
 use crate::texts::put_name;
 use crate::texts::put_number;
 use crate::value_texts::Rows;
-use crate::value_texts::part;
 use crate::value_texts::put_connectivity;
 use crate::value_texts::put_leader_data;
 use crate::value_texts::put_mac_counters;

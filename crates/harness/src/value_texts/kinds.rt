@@ -1,5 +1,6 @@
 // The text of each kind of row.
 use crate::texts::Room;
+use crate::texts::part;
 use crate::texts::put_byte;
 use crate::texts::put_hex;
 use crate::texts::put_marked;
@@ -7,7 +8,6 @@ use crate::texts::put_number;
 use crate::texts::put_numbers;
 use crate::texts::put_one;
 use crate::value_texts::Rows;
-use crate::value_texts::part;
 use crate::value_texts::put_mode;
 use diag_rows::ChildIpv6AddrInfo;
 use diag_rows::ChildTableEntry;
