@@ -31,10 +31,13 @@ fn all_digits(text: &[u8]) -> bool
     good
 }
 
-// The index of the first character that is no digit, or the length where each is one.
+// The index of the first character that is no digit, or the length where each is one, as in most texts, which want no search.
 fn first_bad(text: &[u8]) -> usize
     ensures { λ r. ⌜ r ≡ firstBad 0 (now (text .entry)) ⌝ }
 {
+    if all_digits(text) {
+        return text.len();
+    }
     let mut i = 0;
     while i < text.len() {
         if !is_digit(text[i]) {
@@ -73,11 +76,12 @@ pub fn decode(text: &[u8], out: &mut [u8]) -> Written
     if text.len() > refusal::MAX_DIGITS {
         return refusal::refuse(Fault::TooLarge, 0);
     }
+    let bad = first_bad(text);
     if text.len() % 2 == 1 {
         return refusal::refuse(Fault::OddDigits, 0);
     }
-    if !all_digits(text) {
-        return refusal::refuse(Fault::NotHex, first_bad(text));
+    if bad < text.len() {
+        return refusal::refuse(Fault::NotHex, bad);
     }
     let n = text.len() / 2;
     if n > out.len() {

@@ -64,13 +64,9 @@ module _ (i : ℕ) where
     tally-more o w next e = rw e (more-by o (w .stop) (w .ops))
 
     -- no operation more
-    pub tally-over : mostEntries < n → tally n over (endsWith clean) ≡ refused 3 over i
+    pub tally-end : tally n over (endsWith clean) ≡ pick (ltb mostEntries n) (refused 3 over i) (given n)
     unfolding tally tallyBy
-    tally-over h = simp (add-zero, lt-ltb mostEntries n h)
-
-    pub tally-fits : n ≤ mostEntries → tally n over (endsWith clean) ≡ given n
-    unfolding tally tallyBy
-    tally-fits h = simp (add-zero, le-ltb mostEntries n h)
+    tally-end = simp add-zero (by-test (ltb mostEntries n) (λ e. simp e) (λ e. simp e))
 
     -- an operation that is none
     pub tally-bad : (p : ℕ) → tally n over (endsWith (cutAt p)) ≡ refused 9 p i

@@ -4,9 +4,10 @@ use refusal::Refusal;
 use tlv::Frame;
 ghost use mathlib.Core.Path.{_≡_};
 ghost use lib.ListN.{length};
-ghost use lib.Dec.{eqb};
+ghost use lib.Dec.{ltb, eqb};
 ghost use Rattle.refusal.specs.Sizes.{mostEntries};
-ghost use Rattle.refusal.specs.Answer.{pick, onGiven};
+ghost use Rattle.refusal.specs.Answer.{pick, given, refused, onGiven};
+ghost use Rattle.refusal.specs.Number.{faultNumber};
 ghost use Rattle.tlv.specs.Place.{frameAt};
 ghost use Rattle.change_lists.specs.Operations.{operations};
 ghost use Rattle.change_lists.specs.Place.{setAt, opFrameAt};
@@ -75,16 +76,37 @@ fn over_at(n: usize, at: usize, over: usize) -> usize
     if n == refusal::MAX_ENTRIES { at } else { over }
 }
 
+// A refusal of a count, at a place of the caller's input of that number.
+fn refuse(fault: Fault, place: usize, input: u8) -> CountedOps
+    ensures { λ r. ⌜ countedOpsAnswer r ≡ refused (faultNumber fault) place input ⌝ }
+{
+    CountedOps::Refused(Refusal {
+        fault: fault,
+        place: place,
+        input: input,
+    })
+}
+
+// What the walk answers where it ends, n operations passed: 9 at the place of one that is none, then 3 at the place of the 129th, over.
+fn ended(bad: bool, at: usize, n: usize, over: usize, input: u8) -> CountedOps
+    ensures { λ r. ⌜ countedOpsAnswer r ≡ pick bad (refused 9 at input) (pick (ltb mostEntries n) (refused 3 over input) (given n)) ⌝ }
+{
+    let many = n > refusal::MAX_ENTRIES;
+    if bad {
+        return refuse(Fault::BadOperation, at, input);
+    }
+    if many {
+        return refuse(Fault::TooMany, over, input);
+    }
+    CountedOps::Operations(n)
+}
+
 // How many operations a list has, which is the caller's input of that number. Refusals: 1, 9, 3.
 pub fn count_operations(list: &[u8], input: u8) -> CountedOps
     ensures { λ r. ⌜ countedOpsAnswer r ≡ onGiven length (operations input (now (list .entry))) ⌝ }
 {
     if list.len() > refusal::MAX_BYTES {
-        return CountedOps::Refused(Refusal {
-            fault: Fault::TooLarge,
-            place: 0,
-            input: input,
-        });
+        return refuse(Fault::TooLarge, 0, input);
     }
     let mut at: usize = 0;
     let mut n: usize = 0;
@@ -92,21 +114,10 @@ pub fn count_operations(list: &[u8], input: u8) -> CountedOps
     loop {
         match operation_at(list, at) {
             OpFrame::End => {
-                if n > refusal::MAX_ENTRIES {
-                    return CountedOps::Refused(Refusal {
-                        fault: Fault::TooMany,
-                        place: over,
-                        input: input,
-                    });
-                }
-                return CountedOps::Operations(n);
+                return ended(false, at, n, over, input);
             }
             OpFrame::Bad => {
-                return CountedOps::Refused(Refusal {
-                    fault: Fault::BadOperation,
-                    place: at,
-                    input: input,
-                });
+                return ended(true, at, n, over, input);
             }
             OpFrame::Set { ty: _, start, len } => {
                 over = over_at(n, at, over);

@@ -22,7 +22,7 @@ use Rattle.change_lists.specs.Operations.{Op, encodeOps, operations}
 use Rattle.change_folds.specs.Run.{ran}
 use Rattle.change_folds.specs.Fold.{sizedOps, folded, foldedTwo}
 use Rattle.change_folds.specs.Demand.{Changes, Dataset, Roomy, running, folding, foldingTwo, wrote, Same}
-use Rattle.change_folds.proofs.Demand.{same-fold-same-effect, folded-apart, either-grouping, always-folds, empty-fits}
+use Rattle.change_folds.proofs.Demand.{same-fold-same-effect, folded-apart, either-grouping, always-folds, empty-fits, two-run, shortest}
 
 -- ---- what is answered within the limit of bytes
 
@@ -179,3 +179,20 @@ pub run-on-nothing-answers : (a : List ℕ) → Changes a → (o : Roomy) → (n
 run-on-nothing-answers a c o =
     let x = empty-fits a c in
     (_, ap (λ (z : Output). z .answer) (run-laid [] a o) ∙ laid-count (ran [] a) (o .bytes) ∙ ap (onGiven length) (x .1))
+
+-- What `fold` writes is no longer than any list for which `run` answers and writes the same on every dataset.
+pub fold-writes-shortest : (a b : List ℕ) → Changes a → Changes b → ((d : List ℕ) → Dataset d → (q r : Roomy) → Same (running d a q) (running d b r))
+    → (o : Roomy) → length (wrote (folding a o)) ≤ length b
+fold-writes-shortest a b c e h o =
+    let x = always-folds a c in
+    rw (wrote-given _ (folded-within a) o (x .0) (x .1))
+    (shortest a b (x .0) c e (λ d s. of-same _ _ (ran-within d a) (ran-within d b) o o (h d s o o)) (x .1))
+
+-- `run` with what `fold_two` wrote for two lists, and with the second on what `run` wrote with the first.
+pub run-of-fold-two : (a b d : List ℕ) → Changes a → Changes b → Dataset d → (o p q r : Roomy) (n m : ℕ)
+    → foldingTwo a b o .answer ≡ given n → running d a p .answer ≡ given m
+    → Same (running d (wrote (foldingTwo a b o)) q) (running (wrote (running d a p)) b r)
+run-of-fold-two a b d c e s o p q r n m h k =
+    let x = given-of _ (two-within a b) o n h in
+    let y = given-of _ (ran-within d a) p m k in
+    same-of _ _ (ran-within d _) (ran-within _ b) q r (two-run a b _ d _ c e s x y)

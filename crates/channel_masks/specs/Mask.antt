@@ -37,7 +37,7 @@ maskAnswer (m.Items n) = given n
 maskAnswer m.Absent = absent
 maskAnswer (m.Refused r) = refusalAnswer r
 
--- what stands at a place of a value, by places: the code's own language
+-- what stands at a place of a value, by places: the code's own language. `items-step` (proofs/Items.antt): it is what `itemsIn` finds there
 unfoldable pub itemAt : List ℕ → ℕ → MaskItem
 itemAt v at =
     pick (leb (length v) at) i.End

@@ -12,9 +12,9 @@ use Rattle.diag_rules.specs.Mask.{byteAt}
 use Rattle.diag_values.proofs.Numbers.{two-spell}
 use Rattle.connectivity.specs.Connectivity.{priorityOf, bufferOf, datagramsOf, connectivityOf}
 
-pub buffer-is : (v : List ℕ) → 10 ≤ length v → given (byteAt v 7 * 256 + byteAt v 8) ≡ bufferOf v
+pub buffer-is : (v : List ℕ) (x : ℕ) → x ≡ byteAt v 7 * 256 + byteAt v 8 → 10 ≤ length v → given x ≡ bufferOf v
 unfolding bufferOf
-buffer-is v h = rw (le-leb _ _ h) (ap given (two-spell v 7 (omega arith)))
+buffer-is v x e h = rw (le-leb _ _ h, e) (ap given (two-spell v 7 (omega arith)))
 
 pub connectivity-is : (v : List ℕ) (z : ℤ) (b d : Answer ℕ) → z ≡ priorityOf (byteAt v 0) → b ≡ bufferOf v → d ≡ datagramsOf v
     → record {

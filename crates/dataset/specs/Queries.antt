@@ -1,7 +1,7 @@
 -- The typed queries of a dataset: "A query uses the last entry of its type" (document 01), 1, 2, 3 before the value's own fault at the entry's place.
 -- Assumes nothing.
 use Prim.Native.Nat.{ℕ}
-use mathlib.Core.List.{List, [], _∷_}
+use mathlib.Core.List.{List, [], _∷_, map}
 use lib.Dec.{eqb}
 use Rattle.refusal.specs.Answer.{pick, Answer, thenDo, onGiven}
 use Rattle.wire.specs.Be.{ruled}
@@ -30,6 +30,10 @@ rules =
     ∷ rule 51 8  -- pending timestamp
     ∷ rule 52 4  -- delay timer
     ∷ []
+
+-- their types
+abbrev pub tlvTypes : List ℕ
+tlvTypes = map (λ (r : Rule). r .ty) rules
 
 abbrev pub lengthIn : List Rule → (ty : ℕ) → ℕ
 lengthIn [] ty = 0

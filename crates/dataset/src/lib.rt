@@ -20,7 +20,7 @@ ghost use Rattle.wire.specs.Be.{be, answer16, answer32};
 ghost use Rattle.values.specs.Typed.{channelOf, channelAnswer, policyOf, policyAnswer};
 ghost use Rattle.timestamps.specs.Timestamps.{timestampOf, timestampAnswer};
 ghost use Rattle.plain_values.specs.Plain.{copy8, copy16, copied};
-ghost use Rattle.dataset.specs.Queries.{rules, lengthIn, query};
+ghost use Rattle.dataset.specs.Queries.{tlvTypes, rules, lengthIn, query};
 
 pub const TLV_CHANNEL: u8 = 0x00;
 
@@ -39,6 +39,23 @@ pub const TLV_ACTIVE_TIMESTAMP: u8 = 0x0e;
 pub const TLV_PENDING_TIMESTAMP: u8 = 0x33;
 
 pub const TLV_DELAY_TIMER: u8 = 0x34;
+
+// The public constants, held to their numbers.
+fn constants() -> [u8; 9]
+    ensures { λ r. ⌜ r ≡ tlvTypes ⌝ }
+{
+    [
+        TLV_CHANNEL,
+        TLV_PAN_ID,
+        TLV_EXTENDED_PAN_ID,
+        TLV_NETWORK_KEY,
+        TLV_MESH_LOCAL_PREFIX,
+        TLV_SECURITY_POLICY,
+        TLV_ACTIVE_TIMESTAMP,
+        TLV_PENDING_TIMESTAMP,
+        TLV_DELAY_TIMER,
+    ]
+}
 
 // The typed queries. Refusals: 1, 2, 3, then 4 at the value's entry.
 pub fn channel(s: &[u8]) -> ReadChannel

@@ -1,10 +1,18 @@
 // A dataset (dataset.rs): the last value of a type as it is, and the PSKc, which has no rule of its own.
 use tlv_last::Found;
 ghost use mathlib.Core.Path.{_≡_};
+ghost use Rattle.dataset_raw.specs.Types.{rawTypes};
 ghost use Rattle.tlv_last.specs.Last.{lastSpot, lastValue};
 ghost use Rattle.tlv_last.specs.Answers.{foundAnswer};
 
 pub const TLV_PSKC: u8 = 0x04;
+
+// The public constants, held to their numbers.
+fn constants() -> [u8; 1]
+    ensures { λ r. ⌜ r ≡ rawTypes ⌝ }
+{
+    [TLV_PSKC]
+}
 
 // Where the last entry of a type lies. Refusals: 1, 2, 3.
 pub fn raw(s: &[u8], ty: u8) -> Found

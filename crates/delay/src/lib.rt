@@ -3,7 +3,8 @@ use refusal::Fault;
 use refusal::Refusal;
 use wire::Read32;
 ghost use mathlib.Core.Path.{_≡_};
-ghost use Rattle.delay.specs.Delay.{workingDelay, dueSecond};
+ghost use mathlib.Core.List.{[], _∷_};
+ghost use Rattle.delay.specs.Delay.{defaultDelay, mostNow, workingDelay, dueSecond};
 ghost use Rattle.delay.specs.Answers.{workingAnswer, dueAnswer};
 
 // The working delay of a dataset without a delay timer, in milliseconds.
@@ -11,6 +12,19 @@ pub const DEFAULT_DELAY: u32 = 30000;
 
 // The latest "now", in seconds: those of a timestamp have 48 bits.
 pub const MAX_NOW: u64 = 281474976710655;
+
+// The public constants, held to their numbers.
+fn constants() -> [u32; 1]
+    ensures { λ r. ⌜ r ≡ defaultDelay ∷ [] ⌝ }
+{
+    [DEFAULT_DELAY]
+}
+
+fn wide_constants() -> [u64; 1]
+    ensures { λ r. ⌜ r ≡ mostNow ∷ [] ⌝ }
+{
+    [MAX_NOW]
+}
 
 // A delay in milliseconds. It is never absent.
 pub enum WorkingDelay {

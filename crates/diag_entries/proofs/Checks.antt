@@ -113,6 +113,10 @@ number-by n es (refused x y z) h f = refl
 
 module _ (s : List ℕ) where
   -- ---- the loop of `check_values`, by what `count_entries` answered
+  pub check-refused : (n p k : ℕ) → refused n p k ≡ count 0 s → refused n p k ≡ onGiven length (checked s)
+  unfolding checked
+  check-refused n p k e = ap (onGiven length) (counted-refused 0 decoding s n p k e)
+
   pub check-start : (n : ℕ) → given n ≡ count 0 s → verdict n (from s 0 .entries) ≡ onGiven length (checked s)
   unfolding verdict checked
   check-start n e =
@@ -120,10 +124,6 @@ module _ (s : List ℕ) where
       (counted-number 0 s n e ∙ ap (λ (w : Framing). length (w .entries)) (sym (from-start s)))
       (fine (from s 0 .entries))
       ∙ ap (onGiven length) (sym (counted-given 0 decoding s n e))
-
-  pub check-refused : (n p k : ℕ) → refused n p k ≡ count 0 s → refused n p k ≡ onGiven length (checked s)
-  unfolding checked
-  check-refused n p k e = ap (onGiven length) (counted-refused 0 decoding s n p k e)
 
   -- ---- what a caller of `check_values` learns
   learnt-by : (es : List Entry) (a : Answer (List Entry)) (n : ℕ) → Fine es a → given n ≡ onGiven length a → (a ≡ given es) × Every Decodes es

@@ -35,20 +35,6 @@ module _ (ty : ℕ) (l : List Entry) (e : Entry) (es : List Entry) (is : l ≡ e
   pub all-same : (e .ty ≡ ty → ⊥) → length (allOf ty l) ≡ length (allOf ty es)
   all-same h = ap length (ap (allOf ty) is ∙ all-miss ty e es h)
 
--- where the last of a type lies is the last of the places
-pick-spot : (b : Bool) (e : Entry) (best : Answer Entry) → onGiven spot (pick b (given e) best) ≡ pick b (given (spot e)) (onGiven spot best)
-pick-spot true e best = refl
-pick-spot false e best = refl
-
-spots-of : (ty : ℕ) (best : Answer Entry) (es : List Entry) → onGiven spot (lastOf ty best es) ≡ lastSpotOf ty (onGiven spot best) es
-unfolding lastOf lastSpotOf
-spots-of ty best [] = refl
-spots-of ty best (e ∷ es) =
-    spots-of ty (pick (eqb (e .ty) ty) (given e) best) es ∙ ap (λ b. lastSpotOf ty b es) (pick-spot (eqb (e .ty) ty) e best)
-
-pub last-spots : (ty : ℕ) (es : List Entry) → onGiven spot (last ty es) ≡ lastSpotOf ty absent es
-last-spots ty es = spots-of ty absent es
-
 -- ---- "Last of a repeated type counts"
 over-others : (e : Entry) (ys : List Entry) → Every (λ (y : Entry). y .ty ≡ e .ty → ⊥) ys → lastOf (e .ty) (given e) ys ≡ given e
 unfolding lastOf
@@ -65,3 +51,17 @@ last-by best (x ∷ xs) e ys h = last-by (pick (eqb (x .ty) (e .ty)) (given x) b
 
 pub last-counts : (xs : List Entry) (e : Entry) (ys : List Entry) → Every (λ (y : Entry). y .ty ≡ e .ty → ⊥) ys → last (e .ty) (xs ++ (e ∷ ys)) ≡ given e
 last-counts xs e ys h = last-by absent xs e ys h
+
+-- where the last of a type lies is the last of the places
+pick-spot : (b : Bool) (e : Entry) (best : Answer Entry) → onGiven spot (pick b (given e) best) ≡ pick b (given (spot e)) (onGiven spot best)
+pick-spot true e best = refl
+pick-spot false e best = refl
+
+spots-of : (ty : ℕ) (best : Answer Entry) (es : List Entry) → onGiven spot (lastOf ty best es) ≡ lastSpotOf ty (onGiven spot best) es
+unfolding lastOf lastSpotOf
+spots-of ty best [] = refl
+spots-of ty best (e ∷ es) =
+    spots-of ty (pick (eqb (e .ty) ty) (given e) best) es ∙ ap (λ b. lastSpotOf ty b es) (pick-spot (eqb (e .ty) ty) e best)
+
+pub last-spots : (ty : ℕ) (es : List Entry) → onGiven spot (last ty es) ≡ lastSpotOf ty absent es
+last-spots ty es = spots-of ty absent es

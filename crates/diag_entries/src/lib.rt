@@ -29,7 +29,7 @@ pub fn check_values(payload: &[u8]) -> Counted
 {
     let n = match tlv::count_entries(payload, 0) {
         Counted::Refused(r) => {
-            return Counted::Refused(r);
+            return Counted::Refused(r); // before any value is read
         }
         Counted::Entries(n) => n,
     };

@@ -42,9 +42,9 @@ module _ (v : List ℕ) (k : ℕ) where
   unfolding addressParts
   part-out h = sym (nth-out (λ j. part (j * 16) 16) (length v / 16) k h)
 
-  pub part-in : k < length v / 16 → given (part (k * 16) 16) ≡ nth (addressParts v) k
+  pub part-in : (a n : ℕ) → a ≡ k * 16 → n ≡ 16 → k < length v / 16 → given (part a n) ≡ nth (addressParts v) k
   unfolding addressParts
-  part-in h = sym (nth-in (λ j. part (j * 16) 16) (length v / 16) k h)
+  part-in a n e m h = rw (e, m) (sym (nth-in (λ j. part (j * 16) 16) (length v / 16) k h))
 
 -- ---- an address is what its part holds
 

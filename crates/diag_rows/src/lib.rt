@@ -103,10 +103,10 @@ pub fn child_row(value: &[u8], k: usize) -> ReadChild
 {
     match diag_rules::check_value(diag_rules::CHILD_TABLE, value, 0) {
         Judged::Kept => {
-            if value.len() / 3 <= k {
+            if value.len() / diag_rules::CHILD_ENTRY_LEN <= k {
                 return ReadChild::Absent;
             }
-            ReadChild::Value(child_at(value, k * 3))
+            ReadChild::Value(child_at(value, k * diag_rules::CHILD_ENTRY_LEN))
         }
         Judged::Refused(r) => ReadChild::Refused(r),
     }

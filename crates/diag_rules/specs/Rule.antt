@@ -2,12 +2,20 @@
 -- Assumes nothing.
 use Prim.Native.Nat.{ℕ, _-_, _%_}
 use mathlib.Core.Bool.{Bool, true, false}
-use mathlib.Core.List.{List}
+use mathlib.Core.List.{List, [], _∷_}
 use lib.ListN.{length}
 use lib.Dec.{eqb, leb, ltb}
 use Rattle.refusal.specs.Sizes.{mostBytes}
 use Rattle.refusal.specs.Answer.{pick, Answer, given, refused}
 use Rattle.diag_rules.specs.Mask.{routesFit}
+
+-- the types that 01 lists, in the order of their numbers, which is decode.rs's
+abbrev pub diagTypes : List ℕ
+diagTypes = 0 ∷ 1 ∷ 2 ∷ 3 ∷ 4 ∷ 5 ∷ 6 ∷ 7 ∷ 8 ∷ 9 ∷ 14 ∷ 15 ∷ 16 ∷ 17 ∷ 18 ∷ 23 ∷ 30 ∷ []
+
+-- "8 mask bytes", "rows of 3"
+abbrev pub partSizes : List ℕ
+partSizes = 8 ∷ 3 ∷ []
 
 -- "0, 17, 18: any bytes. 1: u16. 3: u32. 14: one byte. 15: u16. 23: 8 bytes." "2, one byte". "4, at least 7 bytes". 5: "exactly 9 plus the number of set
 -- bits". "6, 8 bytes". "9, 36 bytes". "8: whole 16-byte addresses, possibly none. 30: RLOC16, then the same". "16: rows of 3". "Unknown types are

@@ -5,7 +5,7 @@ ghost use mathlib.Core.Path.{_≡_};
 ghost use Prim.Native.Nat.{_≤_};
 ghost use lib.ListN.{length};
 ghost use Rattle.diag_rules.specs.Mask.{bitOf, routersOf, routesFit};
-ghost use Rattle.diag_rules.specs.Rule.{keepsRule, valueOf};
+ghost use Rattle.diag_rules.specs.Rule.{diagTypes, partSizes, keepsRule, valueOf};
 ghost use Rattle.diag_rules.specs.Answers.{judgedAnswer, judged};
 
 // The types of the values, as decode.rs names them.
@@ -42,6 +42,43 @@ pub const TYPE_LIST: u8 = 18;
 pub const EUI64: u8 = 23;
 
 pub const CHILD_IPV6_ADDRESSES: u8 = 30;
+// The bytes of a Route64's mask, and of a row of a child table.
+pub const ROUTER_ID_MASK_LEN: usize = 8;
+
+pub const CHILD_ENTRY_LEN: usize = 3;
+// The routes of a Route64 stand after the sequence and the mask.
+const ROUTES_AT: usize = 1 + ROUTER_ID_MASK_LEN;
+
+// The public constants, held to their numbers.
+fn constants() -> [u8; 17]
+    ensures { λ r. ⌜ r ≡ diagTypes ⌝ }
+{
+    [
+        EXT_MAC_ADDRESS,
+        MAC_ADDRESS,
+        MODE,
+        TIMEOUT,
+        CONNECTIVITY,
+        ROUTE64,
+        LEADER_DATA,
+        NETWORK_DATA,
+        IPV6_ADDRESSES,
+        MAC_COUNTERS,
+        BATTERY_LEVEL,
+        SUPPLY_VOLTAGE,
+        CHILD_TABLE,
+        CHANNEL_PAGES,
+        TYPE_LIST,
+        EUI64,
+        CHILD_IPV6_ADDRESSES,
+    ]
+}
+
+fn size_constants() -> [usize; 2]
+    ensures { λ r. ⌜ r ≡ partSizes ⌝ }
+{
+    [ROUTER_ID_MASK_LEN, CHILD_ENTRY_LEN]
+}
 
 // Whether a value keeps the sizes and the rule of its type.
 pub enum Judged {
@@ -78,10 +115,10 @@ fn count_routers(v: &[u8]) -> usize
 fn routes_fit(v: &[u8]) -> bool
     ensures { λ r. ⌜ r ≡ routesFit (now (v .entry)) ⌝ }
 {
-    if v.len() < 9 {
+    if v.len() < ROUTES_AT {
         return false;
     }
-    v.len() == 9 + count_routers(v)
+    v.len() == ROUTES_AT + count_routers(v)
 }
 
 // Whether the length of a value keeps the rule of its type: document 01's table.
@@ -90,19 +127,19 @@ fn keeps_rule(ty: u8, v: &[u8]) -> bool
 {
     let n = v.len();
     match ty {
-        1 => n == 2,
-        2 => n == 1,
-        3 => n == 4,
-        4 => n >= 7,
-        5 => routes_fit(v),
-        6 => n == 8,
-        8 => n % 16 == 0,
-        9 => n == 36,
-        14 => n == 1,
-        15 => n == 2,
-        16 => n % 3 == 0,
-        23 => n == 8,
-        30 => { if n < 2 { false } else { (n - 2) % 16 == 0 } }
+        MAC_ADDRESS => n == 2,
+        MODE => n == 1,
+        TIMEOUT => n == 4,
+        CONNECTIVITY => n >= 7,
+        ROUTE64 => routes_fit(v),
+        LEADER_DATA => n == 8,
+        IPV6_ADDRESSES => n % 16 == 0,
+        MAC_COUNTERS => n == 36,
+        BATTERY_LEVEL => n == 1,
+        SUPPLY_VOLTAGE => n == 2,
+        CHILD_TABLE => n % CHILD_ENTRY_LEN == 0,
+        EUI64 => n == 8,
+        CHILD_IPV6_ADDRESSES => { if n < 2 { false } else { (n - 2) % 16 == 0 } }
         _ => true,
     }
 }

@@ -4,12 +4,20 @@ use network_data::Checked;
 use network_data::HasRouteEntry;
 use network_data::PrefixEntry;
 ghost use mathlib.Core.Path.{_≡_};
+ghost use mathlib.Core.List.{[], _∷_};
 ghost use Prim.Native.Nat.{_≤_};
 ghost use Rattle.network_data.specs.Decode.{decodeNetworkData};
 ghost use Rattle.network_bridge.specs.Parts.{places, lentOf, leftWhole, outcomeOf};
 
 // The records of each table.
 pub const PLACES: usize = 128;
+
+// The public constant, held to its number.
+fn constants() -> [usize; 1]
+    ensures { λ r. ⌜ r ≡ places ∷ [] ⌝ }
+{
+    [PLACES]
+}
 
 pub struct Tables {
     pub prefixes: [PrefixEntry; PLACES],

@@ -1,4 +1,5 @@
 pub mod Passes
+pub mod Moved
 pub mod Counted
 pub mod Anywhere
 pub mod Papers

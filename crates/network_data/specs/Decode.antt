@@ -2,12 +2,12 @@
 -- Assumes nothing.
 use Prim.Native.Nat.{ℕ, zero, suc, _+_, _*_, _/_, _%_}
 use mathlib.Core.List.{List, [], _∷_, _++_, map}
-use lib.ListN.{length, getD, take, drop, replicate}
+use lib.ListN.{length, getD, drop, replicate}
 use lib.Dec.{eqb, ltb}
 use Rattle.refusal.specs.Sizes.{mostBytes}
 use Rattle.refusal.specs.Answer.{pick, Answer, given, absent, refused, onGiven}
-use Rattle.network_framing.specs.Tlvs.{Piece, bytesFor}
-use Rattle.network_framing.specs.Frame.{walkIn, headAt}
+use Rattle.network_framing.specs.Tlvs.{Piece, opened, domainOf, bitsOf, bytesOf}
+use Rattle.network_framing.specs.Frame.{part, walkIn, headAt}
 use Rattle.network_data.specs.Rules.{counts, checkValue}
 use Rattle.network_data.specs.declared.Counts.{Counts}
 use Rattle.network_data.specs.declared.HasRouteEntry.{HasRouteEntry}
@@ -82,9 +82,9 @@ inner s start end = headItems s end (headAt s start end)
 
 unfoldable pub prefixAt : List ℕ → (start end : ℕ) → Prefix
 prefixAt s start end = record {
-  domain = getD s start 0;
-  bits = getD s (start + 1) 0;
-  bytes = take (bytesFor (getD s (start + 1) 0)) (drop (start + 2) s);
+  domain = domainOf (opened (part s start end));
+  bits = bitsOf (opened (part s start end));
+  bytes = bytesOf (opened (part s start end));
   context = lastContext s absent (inner s start end);
   routes = map (routeAt s) (placesIn 0 3 (inner s start end));
   borders = map (borderAt s) (placesIn 2 4 (inner s start end));

@@ -14,6 +14,14 @@ use Rattle.network_data.specs.declared.Counts.{Counts}
 abbrev pub counts : (prefixes hasRoutes borderRouters : ℕ) → Counts
 counts n h b = record { prefixes = n; «has_routes» = h; «border_routers» = b }
 
+-- the types: "Type 1 is a prefix"; inside it "Inner 0", "Inner 2", "Inner 3"
+abbrev pub tlvTypes : List ℕ
+tlvTypes = 1 ∷ 0 ∷ 2 ∷ 3 ∷ []
+
+-- "Inner 0: rows of 3", "Inner 2: rows of 4"
+abbrev pub rowSizes : List ℕ
+rowSizes = 3 ∷ 4 ∷ []
+
 -- a list of len bytes in rows of so many, after `had` others: "a row list's length is tested before its room"
 unfoldable pub join : (p had len size most : ℕ) → Answer ℕ
 join p had len size most =

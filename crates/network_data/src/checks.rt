@@ -1,18 +1,24 @@
 // The refusals of a Network Data value: the first that is met in wire order, and the counts of what is passed.
+use crate::BORDER_ROUTER_ENTRY_LEN;
 use crate::Checked;
 use crate::Counts;
+use crate::HAS_ROUTE_ENTRY_LEN;
 use crate::MAX_BORDER_ROUTERS;
 use crate::MAX_HAS_ROUTES;
 use crate::MAX_PREFIXES;
+use crate::NETWORK_DATA_6LOWPAN_CONTEXT;
+use crate::NETWORK_DATA_BORDER_ROUTER;
+use crate::NETWORK_DATA_HAS_ROUTE;
+use crate::NETWORK_DATA_PREFIX;
 use network_framing::Head;
 use network_framing::SubTlv;
 use network_framing::head_at;
-use network_framing::sub_at;
-use network_framing::sub_in;
+use network_walker::after_first;
+use network_walker::first_tlv;
 use refusal::Fault;
 use refusal::Refusal;
 ghost use mathlib.Core.Path.{_≡_};
-ghost use Prim.Native.Nat.{_≤_, _<_};
+ghost use Prim.Native.Nat.{_<_};
 ghost use lib.ListN.{length};
 ghost use Rattle.refusal.specs.Answer.{refused};
 ghost use Rattle.refusal.specs.Number.{faultNumber};
@@ -51,25 +57,33 @@ fn joined(had: usize, len: usize, size: usize, most: usize, place: usize) -> Sum
     requires { ⌜ 0 < size ⌝ }
     ensures { λ r. ⌜ sumAnswer r ≡ join place had len size most ⌝ }
 {
-    if len % size != 0 {
+    let n = len / size;
+    let uneven = len % size != 0;
+    if uneven {
         return over(Fault::BadLength, place);
     }
-    let n = len / size;
     if n > most {
         return over(Fault::TooManyRows, place);
     }
     if had > most - n {
         return over(Fault::TooManyRows, place);
     }
-    Sum::Rows(had + n)
+    let rows = had + n;
+    Sum::Rows(rows)
 }
 
 // The rule of one inner TLV.
 fn inner_rule(c: Counts, ty: u8, len: usize, place: usize) -> Checked
     ensures { λ r. ⌜ checkedAnswer r ≡ rule place c ty len ⌝ }
 {
-    if ty == 0 {
-        match joined(c.has_routes, len, 3, MAX_HAS_ROUTES, place) {
+    if ty == NETWORK_DATA_HAS_ROUTE {
+        match joined(
+            c.has_routes,
+            len,
+            HAS_ROUTE_ENTRY_LEN,
+            MAX_HAS_ROUTES,
+            place,
+        ) {
             Sum::Rows(n) => {
                 return Checked::Counted(Counts {
                     prefixes: c.prefixes,
@@ -82,8 +96,14 @@ fn inner_rule(c: Counts, ty: u8, len: usize, place: usize) -> Checked
             }
         }
     }
-    if ty == 2 {
-        match joined(c.border_routers, len, 4, MAX_BORDER_ROUTERS, place) {
+    if ty == NETWORK_DATA_BORDER_ROUTER {
+        match joined(
+            c.border_routers,
+            len,
+            BORDER_ROUTER_ENTRY_LEN,
+            MAX_BORDER_ROUTERS,
+            place,
+        ) {
             Sum::Rows(n) => {
                 return Checked::Counted(Counts {
                     prefixes: c.prefixes,
@@ -96,7 +116,7 @@ fn inner_rule(c: Counts, ty: u8, len: usize, place: usize) -> Checked
             }
         }
     }
-    if ty == 3 {
+    if ty == NETWORK_DATA_6LOWPAN_CONTEXT {
         if len != 2 {
             return refuse(Fault::BadLength, place);
         }
@@ -104,23 +124,23 @@ fn inner_rule(c: Counts, ty: u8, len: usize, place: usize) -> Checked
     Checked::Counted(c)
 }
 
-// The inner TLVs from a place on, to the end of their prefix.
-fn check_inner(s: &[u8], from: usize, end: usize, before: Counts, place: usize) -> Checked
-    requires { ⌜ end ≤ length (now s) ⌝ }
-    ensures { λ r. ⌜ checkedAnswer r ≡ checkIn place before (walkIn (now (s .entry)) from end) ⌝ }
+// The inner TLVs of a prefix, in wire order.
+fn check_inner(s: &[u8], before: Counts, place: usize) -> Checked
+    ensures { λ r. ⌜ checkedAnswer r ≡ checkIn place before (walkIn (now (s .entry)) 0 (length (now (s .entry)))) ⌝ }
 {
-    let mut at = from;
+    let mut rest = s;
     let mut c = before;
     loop {
-        match sub_in(s, at, end) {
+        match first_tlv(rest) {
             SubTlv::End => {
                 return Checked::Counted(c);
             }
             SubTlv::Cut => {
                 return refuse(Fault::ItemCut, place);
             }
-            SubTlv::Item { ty, start, len } => {
-                at = start + len;
+            SubTlv::Item { ty, start: _, len } => {
+                let left = after_first(rest);
+                rest = left;
                 match inner_rule(c, ty, len, place) {
                     Checked::Counted(d) => {
                         c = d;
@@ -134,16 +154,15 @@ fn check_inner(s: &[u8], from: usize, end: usize, before: Counts, place: usize) 
     }
 }
 
-// A prefix, whose value stands from start to end.
-fn check_prefix(s: &[u8], start: usize, end: usize, before: Counts, place: usize) -> Checked
-    requires { ⌜ end ≤ length (now s) ⌝ }
-    ensures { λ r. ⌜ checkedAnswer r ≡ checkPrefix place (now (s .entry)) before start end ⌝ }
+// A prefix, by its value.
+fn check_prefix(value: &[u8], before: Counts, place: usize) -> Checked
+    ensures { λ r. ⌜ checkedAnswer r ≡ checkPrefix place (now (value .entry)) before 0 (length (now (value .entry))) ⌝ }
 {
     let n = before.prefixes;
     if n >= MAX_PREFIXES {
         return refuse(Fault::TooManyRows, place);
     }
-    match head_at(s, start, end) {
+    match head_at(value, 0, value.len()) {
         Head::Short => refuse(Fault::ItemCut, place),
         Head::Inner(at) => {
             let c = Counts {
@@ -151,7 +170,7 @@ fn check_prefix(s: &[u8], start: usize, end: usize, before: Counts, place: usize
                 has_routes: before.has_routes,
                 border_routers: before.border_routers,
             };
-            check_inner(s, at, end, c, place)
+            check_inner(&value[at..], c, place)
         }
     }
 }
@@ -160,20 +179,22 @@ fn check_prefix(s: &[u8], start: usize, end: usize, before: Counts, place: usize
 pub(crate) fn check_items(s: &[u8], place: usize) -> Checked
     ensures { λ r. ⌜ checkedAnswer r ≡ checkValue place (now (s .entry)) ⌝ }
 {
-    let mut at: usize = 0;
+    let mut rest = s;
     let mut c = Counts {
         prefixes: 0,
         has_routes: 0,
         border_routers: 0,
     };
     loop {
-        match sub_at(s, at) {
+        match first_tlv(rest) {
             SubTlv::End => return Checked::Counted(c),
             SubTlv::Cut => return refuse(Fault::ItemCut, place),
             SubTlv::Item { ty, start, len } => {
-                at = start + len;
-                if ty == 1 {
-                    match check_prefix(s, start, at, c, place) {
+                let value = &rest[start..start + len];
+                let left = after_first(rest);
+                rest = left;
+                if ty == NETWORK_DATA_PREFIX {
+                    match check_prefix(value, c, place) {
                         Checked::Counted(d) => {
                             c = d;
                         }

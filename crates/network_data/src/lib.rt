@@ -6,7 +6,10 @@ use checks::refuse;
 use refusal::Fault;
 use refusal::Refusal;
 ghost use mathlib.Core.Path.{_≡_};
+ghost use mathlib.Core.List.{_∷_};
+ghost use Rattle.refusal.specs.Sizes.{mostPrefixes, mostHasRoutes, mostBorderRouters};
 ghost use Rattle.refusal.specs.Answer.{onGiven};
+ghost use Rattle.network_data.specs.Rules.{tlvTypes, rowSizes};
 ghost use Rattle.network_data.specs.Decode.{decodeNetworkData, countsOf};
 ghost use Rattle.network_data.specs.Answers.{checkedAnswer};
 
@@ -16,6 +19,42 @@ pub const MAX_PREFIXES: usize = 64;
 pub const MAX_HAS_ROUTES: usize = 96;
 
 pub const MAX_BORDER_ROUTERS: usize = 96;
+// The types of its TLVs, as decode.rs names them: a prefix, and those inside one.
+pub const NETWORK_DATA_PREFIX: u8 = 1;
+
+pub const NETWORK_DATA_HAS_ROUTE: u8 = 0;
+
+pub const NETWORK_DATA_BORDER_ROUTER: u8 = 2;
+
+pub const NETWORK_DATA_6LOWPAN_CONTEXT: u8 = 3;
+// The bytes of a row of each kind.
+pub const HAS_ROUTE_ENTRY_LEN: usize = 3;
+
+pub const BORDER_ROUTER_ENTRY_LEN: usize = 4;
+
+// The public constants, held to their numbers.
+fn constants() -> [usize; 5]
+    ensures { λ r. ⌜ r ≡ mostPrefixes ∷ mostHasRoutes ∷ mostBorderRouters ∷ rowSizes ⌝ }
+{
+    [
+        MAX_PREFIXES,
+        MAX_HAS_ROUTES,
+        MAX_BORDER_ROUTERS,
+        HAS_ROUTE_ENTRY_LEN,
+        BORDER_ROUTER_ENTRY_LEN,
+    ]
+}
+
+fn type_constants() -> [u8; 4]
+    ensures { λ r. ⌜ r ≡ tlvTypes ⌝ }
+{
+    [
+        NETWORK_DATA_PREFIX,
+        NETWORK_DATA_HAS_ROUTE,
+        NETWORK_DATA_BORDER_ROUTER,
+        NETWORK_DATA_6LOWPAN_CONTEXT,
+    ]
+}
 
 pub struct HasRouteEntry {
     pub rloc16: u16,

@@ -6,14 +6,14 @@ use Prim.Native.Nat.{ℕ, zero, suc, _+_, _-_, _/_, _≤_, _<_}
 use native.Mathlib.Omega.{arith}
 use native.Mathlib.Nat.{add-zero}
 use lib.ListN.{length, getD, take, drop}
-use lib.Seq.{getD-drop, getD-take, length-take-le}
+use lib.Seq.{getD-drop, getD-take, length-take-le, drop-cons, take-take}
 use lib.Dec.{leb, ltb}
 use borrow.Author.Tests.{le-leb, lt-leb, lt-ltb, le-ltb, leb-true, leb-false, ltb-false}
 use Rattle.refusal.specs.Answer.{Answer, given, absent, refused}
 use Rattle.refusal.proofs.Papers.{Tells, tells, codeOf}
 use Rattle.laws.proofs.Tests.{by-test}
 use Rattle.laws.proofs.Parts.{length-part}
-use Rattle.network_framing.specs.Tlvs.{first, opened, bytesFor, Piece}
+use Rattle.network_framing.specs.Tlvs.{first, opening, opened, bytesFor, domainOf, bitsOf, bytesOf, Piece}
 use Rattle.network_framing.specs.Frame.{part, subOf, subIn, innerOf, headAt, subAnswer, headAnswer}
 use Rattle.network_framing.specs.Place.{subPlace, headPlace}
 use Rattle.network_framing.specs.declared.SubTlv.{SubTlv}
@@ -86,9 +86,65 @@ head-agrees s start end =
     (λ a. by-test (ltb (length s) end) (λ b. simp (a, b))
     (λ b. simp (a, b) (simp (a, b) at (head-by s start end (leb-false _ _ a) (ltb-false _ _ b) (part s start end) refl))))
 
+-- a prefix whose own bytes are all there, by places
+module _ (s : List ℕ) (start end : ℕ) (whole : start + (2 + bytesFor (getD s (start + 1) 0)) ≤ end) (room : end ≤ length s) where
+  begins : part s start end ≡ getD s start 0 ∷ getD s (start + 1) 0 ∷ take (end - (start + 2)) (drop (start + 2) s)
+  begins =
+      let n = end - (start + 2) in
+      let m : end - start ≡ suc (suc n) = omega arith in
+      let one : suc start ≡ start + 1 = omega arith in
+      let two : suc (start + 1) ≡ start + 2 = omega arith in
+      let a = drop-cons s start 0 (omega arith) ∙ ap (λ (k : ℕ). getD s start 0 ∷ drop k s) one in
+      let b = drop-cons s (start + 1) 0 (omega arith) ∙ ap (λ (k : ℕ). getD s (start + 1) 0 ∷ drop k s) two in
+      ap (λ (k : ℕ). take k (drop start s)) m ∙ ap (take (suc (suc n))) (a ∙ ap (λ (r : List ℕ). getD s start 0 ∷ r) b)
+
+  opens : opened (part s start end)
+      ≡ opening (getD s start 0) (getD s (start + 1) 0) (take (bytesFor (getD s (start + 1) 0)) (drop (start + 2) s))
+      (drop (bytesFor (getD s (start + 1) 0)) (take (end - (start + 2)) (drop (start + 2) s)))
+  unfolding opened
+  opens =
+      let b = bytesFor (getD s (start + 1) 0) in
+      let size = length-part s (start + 2) (end - (start + 2)) (omega arith) in
+      rw (begins, size, le-leb b (end - (start + 2)) (omega arith), take-take b (end - (start + 2)) (drop (start + 2) s) (omega arith))
+
+  pub domain-is : domainOf (opened (part s start end)) ≡ getD s start 0
+  unfolding domainOf
+  domain-is = ap domainOf opens
+
+  pub bits-are : bitsOf (opened (part s start end)) ≡ getD s (start + 1) 0
+  unfolding bitsOf
+  bits-are = ap bitsOf opens
+
+  pub bytes-are : bytesOf (opened (part s start end)) ≡ take (bytesFor (getD s (start + 1) 0)) (drop (start + 2) s)
+  unfolding bytesOf
+  bytes-are = ap bytesOf opens
+
 -- what is so by places is so by the definition
 pub sub-is : (s : List ℕ) (at end : ℕ) (r : SubTlv) → r ≡ subPlace s at end → subAnswer r ≡ subIn s at end
 sub-is s at end r e = ap subAnswer e ∙ sub-agrees s at end
 
 pub head-is : (s : List ℕ) (start end : ℕ) (r : Head) → r ≡ headPlace s start end → headAnswer r ≡ headAt s start end
 head-is s start end r e = ap headAnswer e ∙ head-agrees s start end
+
+-- the same for numbers that are equal to those of the definition, however the code comes by them
+module _ (s : List ℕ) (at end : ℕ) (less : at < end) (room : end ≤ length s) (two : 2 ≤ end - at) where
+  module _ (n : ℕ) (long : n ≡ getD s (at + 1) 0) where
+    pub sub-item : (t a : ℕ) → t ≡ getD s at 0 / 2 → a ≡ at + 2 → n ≤ end - (at + 2) → subAnswer (Item t a n) ≡ subIn s at end
+    unfolding subPlace
+    sub-item t a ty start fits =
+        sub-is s at end (Item t a n)
+        (rw (ty, start, long) (simp (lt-leb _ _ less, le-ltb _ _ room, le-ltb _ _ two, le-leb _ _ (rw long at fits))))
+
+    pub sub-cut : end - (at + 2) < n → subAnswer Cut ≡ subIn s at end
+    unfolding subPlace
+    sub-cut over = sub-is s at end Cut (simp (lt-leb _ _ less, le-ltb _ _ room, le-ltb _ _ two, lt-leb _ _ (rw long at over)))
+
+  module _ (n : ℕ) (own : n ≡ 2 + bytesFor (getD s (at + 1) 0)) where
+    pub head-inner : (a : ℕ) → a ≡ at + n → n ≤ end - at → headAnswer (Inner a) ≡ headAt s at end
+    unfolding headPlace
+    head-inner a start fits =
+        head-is s at end (Inner a) (rw (start, own) (simp (lt-leb _ _ less, le-ltb _ _ room, le-ltb _ _ two, le-ltb _ _ (rw own at fits))))
+
+    pub head-short : end - at < n → headAnswer Short ≡ headAt s at end
+    unfolding headPlace
+    head-short over = head-is s at end Short (simp (lt-leb _ _ less, le-ltb _ _ room, le-ltb _ _ two, lt-ltb _ _ (rw own at over)))

@@ -81,7 +81,7 @@ none-left : (j : ℕ) → _≡_ {A = List ℕ} [] (take j [])
 none-left zero = refl
 none-left (suc j) = refl
 
-drop-part : (k n : ℕ) (l : List ℕ) → drop k (take n l) ≡ take (n - k) (drop k l)
+pub drop-part : (k n : ℕ) (l : List ℕ) → drop k (take n l) ≡ take (n - k) (drop k l)
 drop-part zero n l = ap (λ (k : ℕ). take k l) (sym (sub-zero n))
 drop-part (suc k) zero l =
     let z : 0 ≡ 0 - suc k = omega arith in

@@ -32,6 +32,19 @@ opened [] = broken
 opened (d ∷ []) = broken
 opened (d ∷ b ∷ rest) = pick (leb (bytesFor b) (length rest)) (opening d b (take (bytesFor b) rest) (drop (bytesFor b) rest)) broken
 
+-- what it says of itself, and nothing where it is cut short
+unfoldable pub domainOf : Opening → ℕ
+domainOf broken = 0
+domainOf (opening d b bytes rest) = d
+
+unfoldable pub bitsOf : Opening → ℕ
+bitsOf broken = 0
+bitsOf (opening d b bytes rest) = b
+
+unfoldable pub bytesOf : Opening → List ℕ
+bytesOf broken = []
+bytesOf (opening d b bytes rest) = bytes
+
 -- a TLV: its type, where its value starts, and how long that is
 pub record Piece : Type 0 where
   pub ty : ℕ

@@ -24,7 +24,7 @@ pub fn sub_in(s: &[u8], at: usize, end: usize) -> SubTlv
         return SubTlv::End;
     }
     if s.len() < end {
-        return SubTlv::Cut;
+        return SubTlv::Cut; // there is no byte past the last
     }
     if end - at < 2 {
         return SubTlv::Cut;
@@ -55,7 +55,7 @@ pub fn head_at(s: &[u8], start: usize, end: usize) -> Head
         return Head::Short;
     }
     if s.len() < end {
-        return Head::Short;
+        return Head::Short; // there is no byte past the last
     }
     let n = end - start;
     if n < 2 {

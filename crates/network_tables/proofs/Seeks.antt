@@ -12,9 +12,9 @@ use Rattle.refusal.specs.Answer.{Answer, given, absent}
 use Rattle.network_framing.specs.Tlvs.{Piece, bytesFor}
 use Rattle.network_framing.specs.Frame.{walkIn, headAt, headAnswer}
 use Rattle.network_framing.specs.Place.{headPlace}
-use Rattle.network_framing.proofs.Agrees.{head-agrees}
+use Rattle.network_framing.proofs.Agrees.{head-agrees, domain-is, bits-are, bytes-are}
 use Rattle.network_data.specs.Decode.{placesIn, contextAt, lastContext, headItems, inner, prefixAt, padded, optContext, entryOf}
-use Rattle.network_tables.specs.Cursor.{rows, orElse, rowsIn, rowsOut, spanOf, Whole}
+use Rattle.network_tables.specs.Cursor.{rows, orElse, rowsIn, rowsOut, nextRow, spanOf, Whole}
 use Rattle.network_framing.specs.declared.Head.the-variants.{Inner}
 use Rattle.network_data.specs.declared.SixLowPanContext.{SixLowPanContext}
 use Rattle.network_data.specs.declared.OptContext.{OptContext}
@@ -69,6 +69,16 @@ module _ (ty size : ℕ) where
         pub seek-none : c .left ≤ 0 → rowsOut ty size s (e ∷ es) ≡ rowsOut ty size s es
         unfolding rowsOut
         seek-none n = simp (eq-eqb _ _ h, sym is) (or-second c _ n)
+
+-- the next row where a TLV has no more: in the same prefix, or in a later one
+module _ (ty size : ℕ) (s : List ℕ) (c : Rows) (last : c .left ≤ 1) (r : Rows) (is : r ≡ rowsIn ty size (c .end) (walkIn s (c .stop) (c .end) .items)) where
+  pub next-same : 0 < r .left → r ≡ nextRow ty size s c
+  unfolding nextRow
+  next-same h = simp (le-ltb 1 (c .left) last, sym is) (sym (or-first r _ h))
+
+  pub next-later : r .left ≤ 0 → (q : Rows) → q ≡ rowsOut ty size s (walkIn s (c .end) (length s) .items) → q ≡ nextRow ty size s c
+  unfolding nextRow
+  next-later h q e = e ∙ simp (le-ltb 1 (c .left) last, sym is) (sym (or-second r _ h))
 
 -- how many rows there are
 module _ (ty size : ℕ) where
@@ -170,4 +180,4 @@ module _ (s : List ℕ) (x : Span) (w : Whole s x) where
     unfolding entryOf prefixAt
     entry-is p q r t =
         let q′ : k ≡ optContext (lastContext s absent items) = sym (context-back k) ∙ ap optContext q in
-        simp (length-map, whole-inner, p, q′, r, t)
+        simp (length-map, whole-inner, domain-is s (x .start) (x .end) (w .0) (w .1), bits-are s (x .start) (x .end) (w .0) (w .1), bytes-are s (x .start) (x .end) (w .0) (w .1), p, q′, r, t)

@@ -1,4 +1,10 @@
 // The records of prefixes. Their cursor is a place, from which the next prefix is looked for.
+use network_data::BORDER_ROUTER_ENTRY_LEN;
+use network_data::HAS_ROUTE_ENTRY_LEN;
+use network_data::NETWORK_DATA_6LOWPAN_CONTEXT;
+use network_data::NETWORK_DATA_BORDER_ROUTER;
+use network_data::NETWORK_DATA_HAS_ROUTE;
+use network_data::NETWORK_DATA_PREFIX;
 use network_data::OptContext;
 use network_data::PrefixEntry;
 use network_data::SixLowPanContext;
@@ -29,7 +35,7 @@ fn find_prefix(s: &[u8], from: usize) -> Span
         match sub_at(s, at) {
             SubTlv::Item { ty, start, len } => {
                 at = start + len;
-                if ty == 1 {
+                if ty == NETWORK_DATA_PREFIX {
                     return Span {
                         start: start,
                         end: at,
@@ -102,7 +108,7 @@ fn context_in(s: &[u8], from: usize, end: usize) -> OptContext
         match sub_in(s, at, end) {
             SubTlv::Item { ty, start, len } => {
                 at = start + len;
-                if ty == 3 {
+                if ty == NETWORK_DATA_6LOWPAN_CONTEXT {
                     if len == 2 {
                         x = OptContext::Some(context_at(s, start));
                     }
@@ -127,8 +133,14 @@ fn entry_at(s: &[u8], x: Span) -> PrefixEntry
     let at = start + (2 + n);
     let bytes = copy_bytes(s, start + 2, n);
     let context = context_in(s, at, end);
-    let routes = rows_in(s, 0, 3, at, end);
-    let borders = rows_in(s, 2, 4, at, end);
+    let routes = rows_in(s, NETWORK_DATA_HAS_ROUTE, HAS_ROUTE_ENTRY_LEN, at, end);
+    let borders = rows_in(
+        s,
+        NETWORK_DATA_BORDER_ROUTER,
+        BORDER_ROUTER_ENTRY_LEN,
+        at,
+        end,
+    );
     PrefixEntry {
         domain_id: s[start],
         prefix_bit_length: bits,

@@ -1,6 +1,11 @@
 // A cursor on the rows of one kind: it goes through the inner TLVs of a type, prefix after prefix.
+use network_data::BORDER_ROUTER_ENTRY_LEN;
 use network_data::BorderRouterEntry;
+use network_data::HAS_ROUTE_ENTRY_LEN;
 use network_data::HasRouteEntry;
+use network_data::NETWORK_DATA_BORDER_ROUTER;
+use network_data::NETWORK_DATA_HAS_ROUTE;
+use network_data::NETWORK_DATA_PREFIX;
 use network_framing::Head;
 use network_framing::SubTlv;
 use network_framing::head_at;
@@ -83,7 +88,7 @@ fn seek_out(s: &[u8], ty: u8, size: usize, from: usize) -> Rows
         match sub_at(s, at) {
             SubTlv::Item { ty: t, start, len } => {
                 at = start + len;
-                if t == 1 {
+                if t == NETWORK_DATA_PREFIX {
                     let c = seek_prefix(s, ty, size, start, at);
                     if c.left > 0 {
                         return c;
@@ -134,14 +139,14 @@ fn row_number(s: &[u8], ty: u8, size: usize, i: usize) -> Rows
 pub(crate) fn first_route(s: &[u8]) -> Rows
     ensures { λ r. ⌜ r ≡ firstRow 0 3 (now (s .entry)) ⌝ }
 {
-    seek_out(s, 0, 3, 0)
+    seek_out(s, NETWORK_DATA_HAS_ROUTE, HAS_ROUTE_ENTRY_LEN, 0)
 }
 
 pub(crate) fn next_route(s: &[u8], c: Rows) -> Rows
     requires { ⌜ RowHere 3 (now s) c ⌝ }
     ensures { λ r. ⌜ r ≡ nextRow 0 3 (now (s .entry)) c ⌝ }
 {
-    next_row(s, 0, 3, c)
+    next_row(s, NETWORK_DATA_HAS_ROUTE, HAS_ROUTE_ENTRY_LEN, c)
 }
 
 pub(crate) fn route_row(s: &[u8], c: Rows) -> HasRouteEntry
@@ -163,20 +168,23 @@ pub(crate) fn route_number(s: &[u8], i: usize) -> HasRouteEntry
     requires { ⌜ RowsTo 0 3 (now s) i ⌝ }
     ensures { λ r. ⌜ r ≡ routeOf (now (s .entry)) (steps (nextRow 0 3 (now (s .entry))) i (firstRow 0 3 (now (s .entry)))) ⌝ }
 {
-    route_row(s, row_number(s, 0, 3, i))
+    route_row(
+        s,
+        row_number(s, NETWORK_DATA_HAS_ROUTE, HAS_ROUTE_ENTRY_LEN, i),
+    )
 }
 
 pub(crate) fn first_border(s: &[u8]) -> Rows
     ensures { λ r. ⌜ r ≡ firstRow 2 4 (now (s .entry)) ⌝ }
 {
-    seek_out(s, 2, 4, 0)
+    seek_out(s, NETWORK_DATA_BORDER_ROUTER, BORDER_ROUTER_ENTRY_LEN, 0)
 }
 
 pub(crate) fn next_border(s: &[u8], c: Rows) -> Rows
     requires { ⌜ RowHere 4 (now s) c ⌝ }
     ensures { λ r. ⌜ r ≡ nextRow 2 4 (now (s .entry)) c ⌝ }
 {
-    next_row(s, 2, 4, c)
+    next_row(s, NETWORK_DATA_BORDER_ROUTER, BORDER_ROUTER_ENTRY_LEN, c)
 }
 
 pub(crate) fn border_row(s: &[u8], c: Rows) -> BorderRouterEntry
@@ -206,5 +214,8 @@ pub(crate) fn border_number(s: &[u8], i: usize) -> BorderRouterEntry
     requires { ⌜ RowsTo 2 4 (now s) i ⌝ }
     ensures { λ r. ⌜ r ≡ borderOf (now (s .entry)) (steps (nextRow 2 4 (now (s .entry))) i (firstRow 2 4 (now (s .entry)))) ⌝ }
 {
-    border_row(s, row_number(s, 2, 4, i))
+    border_row(
+        s,
+        row_number(s, NETWORK_DATA_BORDER_ROUTER, BORDER_ROUTER_ENTRY_LEN, i),
+    )
 }

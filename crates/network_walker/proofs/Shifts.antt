@@ -1,94 +1,123 @@
--- The walker's bytes are what is left of the value: a walk from a place is the walk over the bytes from there on, with its places moved.
--- So what the walker comes by, until its end, are the definition's TLVs.
+-- The walker's bytes are what is left of the value: what stands from a place on is what stands in the bytes from there on, with its places moved; and what
+-- stands before a place is what stands in the bytes up to it. So what the walker comes by, until its end, are the definition's TLVs.
 -- Assumes nothing.
 use mathlib.Core.Path.{_≡_, refl, sym, ap, _∙_}
 use mathlib.Core.List.{List, [], _∷_, map}
-use mathlib.Core.Bool.{Bool}
-use Prim.Native.Nat.{ℕ, zero, suc, _+_, _-_, _/_, _≤_, _<_}
+use Prim.Native.Nat.{ℕ, zero, suc, _+_, _-_, _≤_, _<_}
 use native.Mathlib.Omega.{arith}
 use native.Mathlib.Nat.{add-zero}
-use lib.ListN.{length, getD, take, drop, length-drop}
-use lib.Seq.{getD-drop, drop-drop}
+use lib.ListN.{length, take, drop, length-drop}
+use lib.Seq.{drop-drop, take-take, length-take-le}
 use lib.Dec.{leb, ltb}
-use borrow.Author.Tests.{leb-true, leb-false, le-leb, lt-leb, le-ltb}
-use Rattle.refusal.specs.Answer.{pick, Answer, given, refused}
+use borrow.Author.Tests.{leb-true, leb-false, ltb-true, ltb-false, le-leb, lt-leb, lt-ltb, le-ltb}
+use Rattle.refusal.specs.Answer.{Answer, given, refused, onGiven}
 use Rattle.laws.proofs.Tests.{by-test}
-use Rattle.network_framing.specs.Tlvs.{Piece, piece, Walk, clean, onto}
-use Rattle.network_framing.specs.Frame.{subIn, walkIn, subAnswer}
+use Rattle.network_framing.specs.Tlvs.{First, none, cut, one, first, Opening, broken, opening, opened, Piece, piece, Walk, clean, short, done, onto, step, frames}
+use Rattle.network_framing.specs.Frame.{part, among, subIn, innerOf, headAt, walkIn, subAnswer}
 use Rattle.network_framing.specs.Place.{subPlace}
 use Rattle.network_framing.proofs.Agrees.{sub-agrees}
-use Rattle.network_walker.specs.Walker.{after, restOf, Tlv, Came, came, tlv, finds, comesBy, tlvAt, cameOf, tallied}
+use Rattle.network_walker.specs.Walker.{after, restOf, Tlv, Came, came, tlv, finds, comesBy, tlvAt, cameOf}
+use Rattle.network_walker.proofs.Rests.{rest-item}
 use Rattle.network_framing.specs.declared.SubTlv.{SubTlv}
 use Rattle.network_framing.specs.declared.SubTlv.the-variants.{Item, Cut, End}
-use Rattle.network_framing.proofs.Walks.{stepBy, walk-step, walk-end, inside, Inside, turn-end, turn-cut, turn-item, turn-inside}
+use Rattle.network_framing.proofs.Walks.{drop-part, walk-end, turn-end, turn-cut, turn-item, turn-inside}
 
--- places counted from at, as places of the whole
-unfoldable pub fwd : ℕ → SubTlv → SubTlv
-fwd at End = End
-fwd at Cut = Cut
-fwd at (Item t a n) = Item t (at + a) n
-
+-- places counted from k, as places of the whole
 unfoldable pub movedItems : ℕ → List Piece → List Piece
-movedItems at [] = []
-movedItems at (e ∷ es) = piece (e .ty) (at + e .start) (e .len) ∷ movedItems at es
+movedItems k [] = []
+movedItems k (e ∷ es) = piece (e .ty) (k + e .start) (e .len) ∷ movedItems k es
 
 abbrev pub moved : ℕ → Walk → Walk
-moved at w = record { items = movedItems at (w .items); stop = w .stop }
+moved k w = record { items = movedItems k (w .items); stop = w .stop }
+
+abbrev pub movedBy : ℕ → Answer ℕ → Answer ℕ
+movedBy k a = onGiven (λ (at : ℕ). k + at) a
+
+-- ---- the definition reads bytes, and only counts on from the place that it is given
+module _ (k : ℕ) where
+  step-moved : (at : ℕ) (x : First) (p q : ℕ → List ℕ → Walk) → ((n : ℕ) (r : List ℕ) → p (k + n) r ≡ moved k (q n r)) → step (k + at) x p ≡ moved k (step at x q)
+  unfolding step movedItems
+  step-moved at none p q h = refl
+  step-moved at cut p q h = refl
+  step-moved at (one t v r) p q h =
+      let a : k + at + 2 ≡ k + (at + 2) = omega arith in
+      let b : k + at + 2 + length v ≡ k + (at + 2 + length v) = omega arith in
+      ap (λ (x : ℕ). onto (piece t x (length v)) (p (k + at + 2 + length v) r)) a
+      ∙ ap (onto (piece t (k + (at + 2)) (length v))) (ap (λ (x : ℕ). p x r) b ∙ h (at + 2 + length v) r)
+
+  frames-moved : (f at : ℕ) (d : List ℕ) → frames f (k + at) d ≡ moved k (frames f at d)
+  unfolding frames movedItems
+  frames-moved zero at d = refl
+  frames-moved (suc f) at d = step-moved at (first d) (λ n r. frames f n r) (λ n r. frames f n r) (λ n r. frames-moved f n r)
+
+  inner-moved : (at : ℕ) (x : Opening) → innerOf (k + at) x ≡ movedBy k (innerOf at x)
+  unfolding innerOf
+  inner-moved at broken = refl
+  inner-moved at (opening d b bytes r) =
+      let a : k + at + (2 + length bytes) ≡ k + (at + (2 + length bytes)) = omega arith in
+      ap given a
+
+-- ---- from the place k on
+among-map : {A B : Type 0} (f : A → B) (s : List ℕ) (at end : ℕ) (x y z : A) → among s at end (f x) (f y) (f z) ≡ f (among s at end x y z)
+among-map f s at end x y z =
+    by-test (leb end at) (λ a. simp a) (λ a. by-test (ltb (length s) end) (λ b. simp (a, b)) (λ b. simp (a, b)))
+
+module _ (s : List ℕ) (k at end : ℕ) where
+  part-drop : part s (k + at) (k + end) ≡ part (drop k s) at end
+  part-drop =
+      let n : k + end - (k + at) ≡ end - at = omega arith in
+      ap (λ (m : ℕ). take m (drop (k + at) s)) n ∙ ap (take (end - at)) (sym (drop-drop at k s))
+
+  among-drop : {A : Type 0} (x y z : A) → among s (k + at) (k + end) x y z ≡ among (drop k s) at end x y z
+  among-drop x y z =
+      by-test (leb end at)
+      (λ a. let h : k + end ≤ k + at = omega (arith, leb-true end at a) in simp (a, le-leb _ _ h))
+      (λ a. let h : k + at < k + end = omega (arith, leb-false end at a) in
+      by-test (ltb (length s) (k + end))
+      (λ b. let l : length s - k < end = omega (arith, leb-false end at a, ltb-true (length s) (k + end) b) in simp (a, lt-leb _ _ h, b, length-drop, lt-ltb _ _ l))
+      (λ b. let l : end ≤ length s - k = omega (arith, ltb-false (length s) (k + end) b) in simp (a, lt-leb _ _ h, b, length-drop, le-ltb _ _ l)))
+
+  pub walk-drop : walkIn s (k + at) (k + end) ≡ moved k (walkIn (drop k s) at end)
+  unfolding walkIn movedItems
+  walk-drop =
+      let n : k + end - (k + at) ≡ end - at = omega arith in
+      among-drop (done clean) (done short) (frames (k + end - (k + at)) (k + at) (part s (k + at) (k + end)))
+      ∙ ap (among (drop k s) at end (done clean) (done short))
+      (ap (λ (f : ℕ). frames f (k + at) (part s (k + at) (k + end))) n ∙ ap (frames (end - at) (k + at)) part-drop ∙ frames-moved k (end - at) at (part (drop k s) at end))
+      ∙ among-map (moved k) (drop k s) at end (done clean) (done short) (frames (end - at) at (part (drop k s) at end))
+
+  pub head-drop : headAt s (k + at) (k + end) ≡ movedBy k (headAt (drop k s) at end)
+  unfolding headAt
+  head-drop =
+      among-drop (refused 5 0 0) (refused 5 0 0) (innerOf (k + at) (opened (part s (k + at) (k + end))))
+      ∙ ap (among (drop k s) at end (refused 5 0 0) (refused 5 0 0)) (ap (λ (d : List ℕ). innerOf (k + at) (opened d)) part-drop ∙ inner-moved k at (opened (part (drop k s) at end)))
+      ∙ among-map (movedBy k) (drop k s) at end (refused 5 0 0) (refused 5 0 0) (innerOf at (opened (part (drop k s) at end)))
+
+-- ---- up to the place n
+module _ (d : List ℕ) (at n : ℕ) (h : n ≤ length d) where
+  part-take : part (take n d) at n ≡ part d at n
+  part-take = ap (take (n - at)) (drop-part at n d) ∙ take-take (n - at) (n - at) (drop at d) (omega arith)
+
+  among-take : {A : Type 0} (x y z : A) → among (take n d) at n x y z ≡ among d at n x y z
+  among-take x y z =
+      let l = length-take-le n d h in
+      let m : n ≤ length (take n d) = omega arith in
+      simp (le-ltb _ _ h, le-ltb _ _ m)
+
+  pub walk-take : walkIn (take n d) at n ≡ walkIn d at n
+  unfolding walkIn
+  walk-take = among-take (done clean) (done short) (frames (n - at) at (part (take n d) at n)) ∙ ap (λ (x : List ℕ). among d at n (done clean) (done short) (frames (n - at) at x)) part-take
+
+  pub head-take : headAt (take n d) at n ≡ headAt d at n
+  unfolding headAt
+  head-take = among-take (refused 5 0 0) (refused 5 0 0) (innerOf at (opened (part (take n d) at n))) ∙ ap (λ (x : List ℕ). among d at n (refused 5 0 0) (refused 5 0 0) (innerOf at (opened x))) part-take
 
 module _ (s : List ℕ) (at : ℕ) where
-  same-end : (b : ℕ) → leb (length s - at) b ≡ leb (length s) (at + b)
-  same-end b =
-      by-test (leb (length s) (at + b))
-      (λ t. let h : length s - at ≤ b = omega (arith, leb-true (length s) (at + b) t) in
-      le-leb (length s - at) b h ∙ sym t)
-      (λ t. let h : b < length s - at = omega (arith, leb-false (length s) (at + b) t) in
-      lt-leb (length s - at) b h ∙ sym t)
-
-  fwd-pick : (b1 b2 b3 b4 : Bool) (t a n : ℕ) → fwd at (pick b1 End (pick b2 Cut (pick b3 Cut (pick b4 (Item t a n) Cut)))) ≡ pick b1 End (pick b2 Cut (pick b3 Cut (pick b4 (Item t (at + a) n) Cut)))
-  unfolding fwd
-  fwd-pick b1 b2 b3 b4 t a n =
-      by-test b1 (λ x. simp x) (λ x. by-test b2 (λ y. simp (x, y)) (λ y. by-test b3 (λ z. simp (x, y, z)) (λ z. by-test b4 (λ w. simp (x, y, z, w)) (λ w. simp (x, y, z, w)))))
-
-  sub-moved : (b : ℕ) → subPlace s (at + b) (length s) ≡ fwd at (subPlace (drop at s) b (length (drop at s)))
-  unfolding subPlace
-  sub-moved b =
-      let k1 : length s - at - b ≡ length s - (at + b) = omega arith in
-      let k2 : length s - at - (b + 2) ≡ length s - (at + b + 2) = omega arith in
-      let k3 : at + (b + 1) ≡ at + b + 1 = omega arith in
-      let k4 : at + (b + 2) ≡ at + b + 2 = omega arith in
-      let w1 = le-ltb (length s) (length s) (omega arith) in
-      let w2 = le-ltb (length s - at) (length s - at) (omega arith) in
-      sym (fwd-pick (leb (length (drop at s)) b) (ltb (length (drop at s)) (length (drop at s))) (ltb (length (drop at s) - b) 2) (leb (getD (drop at s) (b + 1) 0) (length (drop at s) - (b + 2))) (getD (drop at s) b 0 / 2) (b + 2) (getD (drop at s) (b + 1) 0)
-      ∙ simp (length-drop, getD-drop, same-end b, w1, w2, k1, k2, k3, k4))
-
-  step-moved : (b : ℕ) (f : SubTlv) → Inside b (length (drop at s)) f
-      → ((c : ℕ) → b + 2 ≤ c → walkIn s (at + c) (length s) ≡ moved at (walkIn (drop at s) c (length (drop at s))))
-      → stepBy (fwd at f) (λ n. walkIn s n (length s)) ≡ moved at (stepBy f (λ n. walkIn (drop at s) n (length (drop at s))))
-  unfolding stepBy fwd movedItems
-  step-moved b End i h = refl
-  step-moved b Cut i h = refl
-  step-moved b (Item t a n) i h =
-      let k : at + a + n ≡ at + (a + n) = omega arith in
-      ap (onto (piece t (at + a) n)) (ap (λ (x : ℕ). walkIn s x (length s)) k ∙ h (a + n) (omega arith))
-
-  -- the walk from a place, in as many steps as are left
-  walk-moved : (k b : ℕ) → length s ≤ at + b + k → walkIn s (at + b) (length s) ≡ moved at (walkIn (drop at s) b (length (drop at s)))
-  unfolding movedItems
-  walk-moved zero b h =
-      let e : length (drop at s) ≤ b = simp length-drop (omega arith) in
-      walk-end s (at + b) (length s) (omega arith) ∙ ap (moved at) (sym (walk-end (drop at s) b (length (drop at s)) e))
-  walk-moved (suc k) b h =
-      walk-step s (at + b) (length s) ∙ ap (λ (f : SubTlv). stepBy f (λ n. walkIn s n (length s))) (sub-moved b)
-      ∙ step-moved b (subPlace (drop at s) b (length (drop at s))) (inside (drop at s) b (length (drop at s))) (λ c l. walk-moved k c (omega arith))
-      ∙ ap (moved at) (sym (walk-step (drop at s) b (length (drop at s))))
-
-  pub rest-moved : walkIn s at (length s) ≡ moved at (walkIn (drop at s) 0 (length (drop at s)))
-  rest-moved = ap (λ (x : ℕ). walkIn s x (length s)) (sym (add-zero at)) ∙ walk-moved (length s) 0 (omega arith)
-
-  moved-length : (es : List Piece) → length (movedItems at es) ≡ length es
-  unfolding movedItems
-  moved-length [] = refl
-  moved-length (e ∷ es) = ap suc (moved-length es)
+  -- the walk from a place to the end
+  pub rest-moved : at ≤ length s → walkIn s at (length s) ≡ moved at (walkIn (drop at s) 0 (length (drop at s)))
+  rest-moved h =
+      let z : length s ≡ at + length (drop at s) = simp length-drop (omega arith) in
+      ap (λ (n : ℕ). walkIn s n (length s)) (sym (add-zero at)) ∙ ap (walkIn s (at + 0)) z ∙ walk-drop s at 0 (length (drop at s))
 
   moved-tlvs : (es : List Piece) → map (tlvAt s) (movedItems at es) ≡ map (tlvAt (drop at s)) es
   unfolding movedItems
@@ -97,9 +126,9 @@ module _ (s : List ℕ) (at : ℕ) where
       ap (λ (d : List ℕ). tlv (e .ty) (take (e .len) d) ∷ map (tlvAt s) (movedItems at es)) (sym (drop-drop (e .start) at s))
       ∙ ap (λ (l : List Tlv). tlvAt (drop at s) e ∷ l) (moved-tlvs es)
 
-  came-moved : cameOf s (walkIn s at (length s)) ≡ cameOf (drop at s) (walkIn (drop at s) 0 (length (drop at s)))
-  came-moved =
-      ap (cameOf s) rest-moved
+  came-moved : at ≤ length s → cameOf s (walkIn s at (length s)) ≡ cameOf (drop at s) (walkIn (drop at s) 0 (length (drop at s)))
+  came-moved h =
+      ap (cameOf s) (rest-moved h)
       ∙ ap (λ (l : List Tlv). came l (walkIn (drop at s) 0 (length (drop at s)) .stop)) (moved-tlvs (walkIn (drop at s) 0 (length (drop at s)) .items))
 
 -- ---- what the walker comes by
@@ -111,7 +140,7 @@ comes-more k s h Cut found go = ap (cameOf s) (sym (turn-cut s 0 (length s) Cut 
 comes-more k s h (Item t a n) found go =
     let i = turn-inside s 0 (length s) (Item t a n) found t a n refl in
     let l : length (drop (a + n) s) ≤ k = simp length-drop (omega arith) in
-    ap (λ (x : Came). came (tlv t (take n (drop a s)) ∷ x .tlvs) (x .stop)) (go (drop (a + n) s) l ∙ sym (came-moved s (a + n)))
+    ap (λ (x : Came). came (tlv t (take n (drop a s)) ∷ x .tlvs) (x .stop)) (go (drop (a + n) s) l ∙ sym (came-moved s (a + n) (i .1)))
     ∙ ap (cameOf s) (sym (turn-item s 0 (length s) (Item t a n) found t a n refl))
 
 comes-by : (k : ℕ) (s : List ℕ) → length s ≤ k → comesBy k s ≡ cameOf s (walkIn s 0 (length s))
@@ -135,29 +164,15 @@ pub walker-over : (s : List ℕ) → refused 5 0 0 ≡ subIn s 0 (length s) → 
 unfolding restOf after
 walker-over s found k = ap (λ (x : Answer Piece). comesBy k (after s x)) (sym found) ∙ nothing-left k
 
--- ---- a turn of the count, where n are counted and s is left
-module _ (s : List ℕ) (n : ℕ) (r : SubTlv) (found : subAnswer r ≡ subIn s 0 (length s)) where
-  abbrev counting : ℕ → List ℕ → Answer ℕ
-  counting m d = tallied (m + length (walkIn d 0 (length d) .items)) (walkIn d 0 (length d) .stop)
+-- ---- a turn of a loop that walks: what is left after the TLV that r found
+module _ (s : List ℕ) (r : SubTlv) (found : subAnswer r ≡ subIn s 0 (length s)) (t a n : ℕ) (e : r ≡ Item t a n) (left : List ℕ) (is : left ≡ restOf s) where
+  pub left-is : left ≡ drop (a + n) s
+  left-is = is ∙ rest-item s r found t a n e
 
-  pub count-end : r ≡ End → given n ≡ counting n s
-  unfolding tallied
-  count-end e = rw (turn-end s 0 (length s) r found e) (ap given (sym (add-zero n)))
+  pub left-less : length left < length s
+  left-less =
+      let l : length left ≡ length s - (a + n) = ap length left-is ∙ length-drop (a + n) s in
+      omega (arith, turn-inside s 0 (length s) r found t a n e)
 
-  pub count-cut : r ≡ Cut → refused 5 0 0 ≡ counting n s
-  unfolding tallied
-  count-cut e = rw (turn-cut s 0 (length s) r found e)
-
-  pub count-item : (t a m : ℕ) → r ≡ Item t a m → (left : List ℕ) → left ≡ restOf s → counting (n + 1) left ≡ counting n s
-  unfolding restOf after
-  count-item t a m e left is =
-      let l : left ≡ drop (a + m) s = is ∙ ap (after s) (sym found ∙ ap subAnswer e) in
-      let w = turn-item s 0 (length s) r found t a m e ∙ ap (onto (piece t a m)) (rest-moved s (a + m)) in
-      let k : n + 1 + length (walkIn (drop (a + m) s) 0 (length (drop (a + m) s)) .items) ≡ n + suc (length (walkIn (drop (a + m) s) 0 (length (drop (a + m) s)) .items)) = omega arith in
-      rw (l, w) (ap (λ (x : ℕ). tallied x (walkIn (drop (a + m) s) 0 (length (drop (a + m) s)) .stop)) (k ∙ ap (λ (x : ℕ). n + suc x) (sym (moved-length s (a + m) _))))
-
-pub count-less : (s : List ℕ) (r : SubTlv) → subAnswer r ≡ subIn s 0 (length s) → (t a m : ℕ) → r ≡ Item t a m → (left : List ℕ) → left ≡ restOf s → length left < length s
-unfolding restOf after
-count-less s r found t a m e left is =
-    let l : length left ≡ length s - (a + m) = ap length (is ∙ ap (after s) (sym found ∙ ap subAnswer e)) ∙ length-drop (a + m) s in
-    omega (arith, turn-inside s 0 (length s) r found t a m e)
+  pub left-walk : walkIn s 0 (length s) ≡ onto (piece t a n) (moved (a + n) (walkIn left 0 (length left)))
+  left-walk = turn-item s 0 (length s) r found t a n e ∙ ap (onto (piece t a n)) (rw left-is (rest-moved s (a + n) (turn-inside s 0 (length s) r found t a n e .1)))

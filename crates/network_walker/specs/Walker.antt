@@ -3,11 +3,9 @@
 use Prim.Native.Nat.{ℕ, zero, suc, _+_}
 use mathlib.Core.List.{List, [], _∷_, map}
 use lib.ListN.{length, take, drop}
-use lib.Dec.{ltb}
-use Rattle.refusal.specs.Sizes.{mostBytes}
-use Rattle.refusal.specs.Answer.{pick, Answer, given, absent, refused}
+use Rattle.refusal.specs.Answer.{Answer, given, absent, refused}
 use Rattle.network_framing.specs.Tlvs.{Piece, Stop, clean, short, Walk}
-use Rattle.network_framing.specs.Frame.{subIn, walkIn}
+use Rattle.network_framing.specs.Frame.{subIn}
 
 -- what follows a TLV that stands in s
 unfoldable pub after : List ℕ → Answer Piece → List ℕ
@@ -52,15 +50,3 @@ tlvAt s e = tlv (e .ty) (take (e .len) (drop (e .start) s))
 
 abbrev pub cameOf : List ℕ → Walk → Came
 cameOf s w = came (map (tlvAt s) (w .items)) (w .stop)
-
--- how many TLVs there are: 5 where one of them is cut short
-unfoldable pub tallied : ℕ → Stop → Answer ℕ
-tallied n clean = given n
-tallied n short = refused 5 0 0
-
-abbrev pub tlvsOf : Walk → Answer ℕ
-tlvsOf w = tallied (length (w .items)) (w .stop)
-
--- those of a bare value: 1, then 5
-unfoldable pub tlvCount : List ℕ → Answer ℕ
-tlvCount s = pick (ltb mostBytes (length s)) (refused 1 0 0) (tlvsOf (walkIn s 0 (length s)))

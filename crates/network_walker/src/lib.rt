@@ -1,24 +1,13 @@
-// The walker over the TLVs of Thread Network Data (the values of type 7 in decode.rs), and the count that it makes of them.
+// The walker over the TLVs of Thread Network Data (the values of type 7 in decode.rs), and its steps for callers that have a plain slice.
 mod framing;
-mod walker;
 
+use framing::first_of;
 use framing::rest_of;
 use network_framing::SubTlv;
-use network_framing::sub_at;
-use refusal::Fault;
-use refusal::Refusal;
-use walker::count_all;
 ghost use mathlib.Core.Path.{_≡_};
 ghost use lib.ListN.{length};
 ghost use Rattle.network_framing.specs.Frame.{subIn, subAnswer};
-ghost use Rattle.network_walker.specs.Walker.{restOf, tlvCount};
-ghost use Rattle.network_walker.specs.Answers.{tlvCountAnswer};
-
-// How many TLVs a value has, prefixes or not.
-pub enum TlvCount {
-    Tlvs(usize),
-    Refused(Refusal),
-}
+ghost use Rattle.network_walker.specs.Walker.{restOf};
 
 // The walker: it keeps the bytes still to be read.
 pub struct NetworkDataTlvIter<'a> {
@@ -36,7 +25,7 @@ impl<'a> NetworkDataTlvIter<'a> {
     pub fn item(self) -> SubTlv
         ensures { λ r. ⌜ subAnswer r ≡ subIn (now (self .entry .bytes)) 0 (length (now (self .entry .bytes))) ⌝ }
     {
-        sub_at(self.bytes, 0)
+        first_of(self.bytes)
     }
 
     // The walker after that: at the bytes behind it, and at none after a cut or the end.
@@ -49,16 +38,17 @@ impl<'a> NetworkDataTlvIter<'a> {
     }
 }
 
-// How many TLVs a bare value has, whatever is in them. Refusals: 1, then 5 where one of them is cut short.
-pub fn count_tlvs(value: &[u8]) -> TlvCount
-    ensures { λ r. ⌜ tlvCountAnswer r ≡ tlvCount (now (value .entry)) ⌝ }
+// What the walker finds first in these bytes.
+pub fn first_tlv(bytes: &[u8]) -> SubTlv
+    ensures { λ r. ⌜ subAnswer r ≡ subIn (now (bytes .entry)) 0 (length (now (bytes .entry))) ⌝ }
 {
-    if value.len() > refusal::MAX_BYTES {
-        return TlvCount::Refused(Refusal {
-            fault: Fault::TooLarge,
-            place: 0,
-            input: 0,
-        });
-    }
-    count_all(value)
+    NetworkDataTlvIter::new(bytes).item()
+}
+
+// What it still has to read after that.
+pub fn after_first<'a>(bytes: &'a [u8]) -> &'a [u8]
+    ensures { λ r. ⌜ now r ≡ restOf (now (bytes .entry)) ⌝ }
+{
+    let walker = NetworkDataTlvIter::new(bytes).rest();
+    walker.bytes
 }

@@ -16,3 +16,7 @@ rewrite x r q left over = both (x .𝓤) _ _ _ (λ e f. let same = leaves writte
 -- tlv_rewriting::set_last
 pub set-last : One Rattle.tlv_rewriting.proofs.set_last.ended (λ M. Rattle.tlv_rewriting.proofs.set_last.clauses)
 set-last x r q left over = both (x .𝓤) _ _ _ (λ e f. let same = leaves writtenAnswer written-tells _ r q _ _ e f in (same .0, λ i. (tt, (tt, (tt, (same .1 i, tt))))))
+
+-- tlv_rewriting::push
+pub push : One Rattle.tlv_rewriting.proofs.push.ended (λ M. Rattle.tlv_rewriting.proofs.push.clauses)
+push x r q left over = both (x .𝓤) _ _ _ (λ e f. let same = leaves writtenAnswer written-tells _ r q _ _ e f in (same .0, λ i. (tt, (tt, (tt, (same .1 i, tt))))))

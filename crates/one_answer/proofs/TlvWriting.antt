@@ -10,6 +10,10 @@ use Rattle.one_answer.specs.One.{One}
 pub entry-size : One Rattle.tlv_writing.proofs.entry_size.ended (λ M. Rattle.tlv_writing.proofs.entry_size.clauses)
 entry-size x r q left over = both (x .𝓤) _ _ _ (λ e f. (e ∙ sym f, refl))
 
+-- tlv_writing::encode_header
+pub encode-header : One Rattle.tlv_writing.proofs.encode_header.ended (λ M. Rattle.tlv_writing.proofs.encode_header.clauses)
+encode-header x r q left over = both (x .𝓤) _ _ _ (λ e f. let same = leaves writtenAnswer written-tells _ r q _ _ e f in (same .0, λ i. (tt, (tt, (same .1 i, tt)))))
+
 -- tlv_writing::put_entry
 pub put-entry : One Rattle.tlv_writing.proofs.put_entry.ended (λ M. Rattle.tlv_writing.proofs.put_entry.clauses)
 put-entry x r q left over = both (x .𝓤) _ _ _ (λ e f. let same = leaves-placed _ r q _ _ e f in (same .0, λ i. (tt, (tt, (same .1 i, (tt, tt))))))

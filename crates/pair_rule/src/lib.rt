@@ -1,12 +1,20 @@
 // What is said of a row of a child table that is paired with the address lists: the rule, and the number that stands for the answer in an output.
 ghost use mathlib.Core.Path.{_≡_};
+ghost use mathlib.Core.List.{[], _∷_};
 ghost use Rattle.pair_rule.specs.Pairing.{judged};
-ghost use Rattle.pair_rule.specs.Codes.{codeOf, meant};
+ghost use Rattle.pair_rule.specs.Codes.{codeNone, codeUnclear, codeOf, meant};
 
 // In an output of numbers a pair is the number of its list; these stand for the other two answers.
 pub const CODE_NONE: u16 = 65535;
 
 pub const CODE_UNCLEAR: u16 = 65534;
+
+// The public constants, held to their numbers.
+fn constants() -> [u16; 2]
+    ensures { λ r. ⌜ r ≡ codeNone ∷ codeUnclear ∷ [] ⌝ }
+{
+    [CODE_NONE, CODE_UNCLEAR]
+}
 
 // What is said of a row of the child table: it is paired with the address list of that number, from 0; it has none; or that is unclear.
 pub enum Pairing {

@@ -64,7 +64,7 @@ fn count_rows(table: &[u8]) -> [u16; 512]
     ensures { λ r. ⌜ Counts r (rowsOf (now (table .entry))) ⌝ }
 {
     let mut count = [0u16; 512];
-    let n = table.len() / 3;
+    let n = table.len() / diag_rules::CHILD_ENTRY_LEN;
     let mut k: usize = 0;
     while k < n {
         let id = row_id(table, k);
@@ -110,7 +110,7 @@ fn write_codes(table: &[u8], rows: [u16; 512], lists: Lists, out: &mut [u16])
     requires { ⌜ length (now table) / 3 ≤ length (now out) ⌝ }
     ensures { λ _. ⌜ now (out .exit) ≡ put (now (out .entry)) 0 (codesBy rows (lists .count) (lists .place) (rowsOf (now (table .entry)))) ⌝ }
 {
-    let n = table.len() / 3;
+    let n = table.len() / diag_rules::CHILD_ENTRY_LEN;
     let mut k: usize = 0;
     while k < n {
         let id = row_id(table, k);
@@ -131,7 +131,7 @@ pub fn pair(payload: &[u8], out: &mut [u16]) -> Answered
         Counted::Entries(_) => {}
     }
     let table = tlv_last::last_value(payload, diag_rules::CHILD_TABLE);
-    let n = table.len() / 3;
+    let n = table.len() / diag_rules::CHILD_ENTRY_LEN;
     if n > out.len() {
         return Answered::Refused(Refusal {
             fault: Fault::NoRoom,
@@ -154,7 +154,7 @@ pub fn pair_row(payload: &[u8], k: usize) -> ReadPairing
         Counted::Entries(_) => {}
     }
     let table = tlv_last::last_value(payload, diag_rules::CHILD_TABLE);
-    if k >= table.len() / 3 {
+    if k >= table.len() / diag_rules::CHILD_ENTRY_LEN {
         return ReadPairing::Absent;
     }
     let id = row_id(table, k);

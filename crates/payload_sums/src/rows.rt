@@ -99,7 +99,7 @@ fn child_at(v: &[u8], k: usize) -> u64
 fn children_sum(v: &[u8]) -> u64
     ensures { λ r. ⌜ r ≡ children (now (v .entry)) ⌝ }
 {
-    let rows = v.len() / 3;
+    let rows = v.len() / diag_rules::CHILD_ENTRY_LEN;
     let mut n: u64 = 0;
     let mut k: usize = 0;
     while k < rows {

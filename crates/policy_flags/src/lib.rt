@@ -28,6 +28,8 @@ impl SecurityPolicyFlags {
 
     pub const COMMERCIAL_COMMISSIONING_MODE: u16 = 0x0010;
 
+    const VERSION_THRESHOLD_MASK: u16 = 0xe000;
+
     // Flags of any bits, unknown ones too.
     pub fn from_bits_retain(bits: u16) -> SecurityPolicyFlags
         ensures { λ r. ⌜ r .0 ≡ bits ⌝ }
@@ -53,10 +55,10 @@ impl SecurityPolicyFlags {
         ensures { λ r. ⌜ r ≡ threshold (self .0) ⌝ }
     {
         let bits = self.0;
-        if bits / 4 % 2 == 1 {
+        if self.contains(SecurityPolicyFlags::LEGACY_ROUTERS_ENABLED) {
             return ThreadProtocolVersion::V1Or2;
         }
-        let field = bits / 8192 % 8;
+        let field = (bits & SecurityPolicyFlags::VERSION_THRESHOLD_MASK) >> 13;
         match field {
             0 => ThreadProtocolVersion::V3,
             1 => ThreadProtocolVersion::V4,
@@ -77,18 +79,20 @@ impl SecurityPolicyFlags {
         ensures { λ r. ⌜ r .0 ≡ withThreshold (self .0) version ⌝ }
     {
         let bits = self.0;
-        let legacy = bits / 4 % 2;
-        let rest = (bits - legacy * 4) % 8192;
+        let others = bits & !SecurityPolicyFlags::LEGACY_ROUTERS_ENABLED;
+        let rest = others & !SecurityPolicyFlags::VERSION_THRESHOLD_MASK;
         match version {
-            ThreadProtocolVersion::V1Or2 => SecurityPolicyFlags(bits + (1 - legacy) * 4),
+            ThreadProtocolVersion::V1Or2 => SecurityPolicyFlags(
+                bits | SecurityPolicyFlags::LEGACY_ROUTERS_ENABLED,
+            ),
             ThreadProtocolVersion::V3 => SecurityPolicyFlags(rest),
-            ThreadProtocolVersion::V4 => SecurityPolicyFlags(rest + 8192),
-            ThreadProtocolVersion::V5 => SecurityPolicyFlags(rest + 16384),
-            ThreadProtocolVersion::V6 => SecurityPolicyFlags(rest + 24576),
-            ThreadProtocolVersion::V7 => SecurityPolicyFlags(rest + 32768),
-            ThreadProtocolVersion::V8 => SecurityPolicyFlags(rest + 40960),
-            ThreadProtocolVersion::V9 => SecurityPolicyFlags(rest + 49152),
-            ThreadProtocolVersion::V10 => SecurityPolicyFlags(rest + 57344),
+            ThreadProtocolVersion::V4 => SecurityPolicyFlags(rest | 0x2000),
+            ThreadProtocolVersion::V5 => SecurityPolicyFlags(rest | 0x4000),
+            ThreadProtocolVersion::V6 => SecurityPolicyFlags(rest | 0x6000),
+            ThreadProtocolVersion::V7 => SecurityPolicyFlags(rest | 0x8000),
+            ThreadProtocolVersion::V8 => SecurityPolicyFlags(rest | 0xa000),
+            ThreadProtocolVersion::V9 => SecurityPolicyFlags(rest | 0xc000),
+            ThreadProtocolVersion::V10 => SecurityPolicyFlags(rest | 0xe000),
         }
     }
 }

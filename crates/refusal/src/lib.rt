@@ -1,5 +1,7 @@
 // What every call of the library may refuse, under document 01's numbers, and the sizes that bound its inputs.
 ghost use mathlib.Core.Path.{_≡_};
+ghost use mathlib.Core.List.{[], _∷_};
+ghost use Rattle.refusal.specs.Sizes.{mostBytes, mostDigits, mostEntries};
 ghost use Rattle.refusal.specs.Answer.{refused};
 ghost use Rattle.refusal.specs.Number.{faultNumber};
 ghost use Rattle.refusal.specs.Output.{writtenAnswer};
@@ -10,6 +12,13 @@ pub const MAX_BYTES: usize = 8192;
 pub const MAX_DIGITS: usize = 16384;
 // A dataset or payload has at most so many entries, a change list so many operations.
 pub const MAX_ENTRIES: usize = 128;
+
+// The public constants, held to their numbers.
+fn constants() -> [usize; 3]
+    ensures { λ r. ⌜ r ≡ mostBytes ∷ mostDigits ∷ mostEntries ∷ [] ⌝ }
+{
+    [MAX_BYTES, MAX_DIGITS, MAX_ENTRIES]
+}
 
 // One case for each number of document 01's table, in its order.
 pub enum Fault {

@@ -103,11 +103,11 @@ module _ (v : List ℕ) where
       row-miss e = rw (rest-miss i v h e)
 
 -- the Route64 that a value is handed out as
-pub routes-are : (v mask : List ℕ) (rows : List RouteDataEntry) → routesFit v ≡ true → mask ≡ maskOf v → rows ≡ table (routeRows v)
-    → record { «id_sequence» = byteAt v 0; mask = mask; count = length v - 9; «route_data» = rows } ≡ routes (routeOf v)
+pub routes-are : (v mask : List ℕ) (rows : List RouteDataEntry) (k : ℕ) → routesFit v ≡ true → mask ≡ maskOf v → rows ≡ table (routeRows v)
+    → k ≡ length v - 9 → record { «id_sequence» = byteAt v 0; mask = mask; count = k; «route_data» = rows } ≡ routes (routeOf v)
 unfolding routes
-routes-are v mask rows h m e =
-    let n : length v - 9 ≡ length (routeRows v) = omega (arith, fit-rows v h, fit-length v h) in
+routes-are v mask rows k h m e same =
+    let n : k ≡ length (routeRows v) = omega (arith, fit-rows v h, fit-length v h) in
     simp (m, e, n)
 
 -- what `decode_route64` answers

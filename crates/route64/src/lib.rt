@@ -13,6 +13,9 @@ ghost use Rattle.diag_rules.specs.Rule.{valueOf};
 ghost use Rattle.route64.specs.Routes.{routeRow, routeRows, routeOf, table, zeroRoutes, routes, laidOut};
 ghost use Rattle.route64.specs.Answers.{routeAnswer, routeRead};
 
+// The routes stand after the sequence and the mask.
+const ROUTES_AT: usize = 1 + diag_rules::ROUTER_ID_MASK_LEN;
+
 // One assigned router of a Route64.
 pub struct RouteDataEntry {
     pub router_id: u8,
@@ -66,7 +69,7 @@ fn route_rows(v: &[u8]) -> [RouteDataEntry; 64]
     while k < 64 {
         let next = k + 1;
         if diag_rules::assigns(v[1 + k / 8], k) {
-            let row = route_row(k as u8, v[9 + n]);
+            let row = route_row(k as u8, v[ROUTES_AT + n]);
             rows[n] = row;
             n += 1;
         }
@@ -97,7 +100,7 @@ fn route64_of(v: &[u8]) -> Route64
     Route64 {
         id_sequence: v[0],
         mask: [v[1], v[2], v[3], v[4], v[5], v[6], v[7], v[8]],
-        count: v.len() - 9,
+        count: v.len() - ROUTES_AT,
         route_data: rows,
     }
 }
@@ -124,7 +127,7 @@ fn route_at(v: &[u8], k: usize) -> ReadRoute
     ensures { λ r. ⌜ routeAnswer r ≡ nth (routeRows (now (v .entry))) k ⌝ }
 {
     let mut left: usize = k;
-    let mut at: usize = 9;
+    let mut at: usize = ROUTES_AT;
     let mut i: usize = 0;
     while i < 64 {
         let next = i + 1;

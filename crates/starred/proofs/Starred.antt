@@ -25,7 +25,7 @@ use Rattle.starred.proofs.Same.{all-hold}
 pub starred : Every Holds sheet
 unfolding beFrom be bytesOf valued long first contents step frames framing limited framed header encode encodeAll keepsOf kept rewritten setLast sized
     threshold withThreshold setOf removalOf firstOp opStep opsIn opsOf bare limitedOps operations about touches lasts setsOf removes removalsBelow
-    types foldAll encodeOp encodeOps sizedOps folded perform runAll ran frame.walkIn tlvs.step tlvs.frames tlvs.first frame.headAt frame.innerOf tlvs.opened rules.ended
+    types foldAll encodeOp encodeOps sizedOps folded perform runAll ran frame.walkIn tlvs.step tlvs.frames tlvs.first frame.headAt frame.innerOf tlvs.opened tlvs.domainOf tlvs.bitsOf tlvs.bytesOf rules.ended
     rules.rules rules.checkIn rules.checkHead rules.checkPrefix rules.values rules.checkFrom rules.checkValue decode.placesIn decode.headItems
     decode.inner decode.prefixAt decode.prefixes decode.contents decode.decodeNetworkData bitOf routers routersOf routesFit rowsOf routeRows listed
     childRows timeoutSeconds keepsRule valueOf

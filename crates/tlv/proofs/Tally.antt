@@ -70,13 +70,9 @@ module _ (i : ℕ) where
       tally-off h w = off-by h (w .stop) (w .entries)
 
     -- no entry more
-    pub tally-over : mostEntries < n → tally n over (done clean) ≡ refused 3 over i
+    pub tally-end : tally n over (done clean) ≡ pick (ltb mostEntries n) (refused 3 over i) (given n)
     unfolding tally tallyBy
-    tally-over h = simp (add-zero, lt-ltb mostEntries n h)
-
-    pub tally-fits : n ≤ mostEntries → tally n over (done clean) ≡ given n
-    unfolding tally tallyBy
-    tally-fits h = simp (add-zero, le-ltb mostEntries n h)
+    tally-end = simp add-zero (by-test (ltb mostEntries n) (λ e. simp e) (λ e. simp e))
 
     -- a cut entry
     pub tally-cut : (p : ℕ) → tally n over (done (cutAt p)) ≡ refused 2 p i

@@ -23,10 +23,14 @@ long t [] = cut
 long t (a ∷ []) = cut
 long t (a ∷ b ∷ rest) = valued t 4 (a * 256 + b) rest
 
+-- "type, 255, two length bytes": the length byte that announces a long header
+abbrev pub marker : ℕ
+marker = 255
+
 unfoldable pub first : List ℕ → First
 first [] = none
 first (t ∷ []) = cut
-first (t ∷ l ∷ rest) = pick (eqb l 255) (long t rest) (valued t 2 l rest)
+first (t ∷ l ∷ rest) = pick (eqb l marker) (long t rest) (valued t 2 l rest)
 
 -- an entry: the place of its first byte in the input, its type, the place where its value starts, its value
 pub record Entry : Type 0 where

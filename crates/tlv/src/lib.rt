@@ -2,7 +2,12 @@
 use refusal::Fault;
 use refusal::Refusal;
 ghost use mathlib.Core.Path.{_≡_};
-ghost use Rattle.tlv.specs.Entries.{first};
+ghost use mathlib.Core.List.{[], _∷_};
+ghost use lib.Dec.{ltb};
+ghost use Rattle.refusal.specs.Sizes.{mostEntries, mostShort, mostValue};
+ghost use Rattle.refusal.specs.Answer.{pick, given, refused};
+ghost use Rattle.refusal.specs.Number.{faultNumber};
+ghost use Rattle.tlv.specs.Entries.{marker, first};
 ghost use Rattle.tlv.specs.Limits.{count};
 ghost use Rattle.tlv.specs.Place.{frameAt};
 ghost use Rattle.tlv.specs.Answers.{countedAnswer, parsedAnswer, headOf};
@@ -13,6 +18,19 @@ pub const MAX_STANDARD_TLV_LENGTH: usize = 254;
 pub const EXTENDED_TLV_MARKER: u8 = 255;
 
 pub const MAX_EXTENDED_TLV_LENGTH: usize = 65535;
+
+// The public constants, held to their numbers.
+fn constants() -> [usize; 2]
+    ensures { λ r. ⌜ r ≡ mostShort ∷ mostValue ∷ [] ⌝ }
+{
+    [MAX_STANDARD_TLV_LENGTH, MAX_EXTENDED_TLV_LENGTH]
+}
+
+fn byte_constants() -> [u8; 1]
+    ensures { λ r. ⌜ r ≡ marker ∷ [] ⌝ }
+{
+    [EXTENDED_TLV_MARKER]
+}
 
 // What stands at a place: an entry, whose value is the len bytes from start on; an entry that is cut short; or nothing.
 pub enum Frame {
@@ -87,16 +105,37 @@ pub fn parse_one(s: &[u8]) -> Parsed
     }
 }
 
+// A refusal of a count, at a place of the caller's input of that number.
+fn refuse(fault: Fault, place: usize, input: u8) -> Counted
+    ensures { λ r. ⌜ countedAnswer r ≡ refused (faultNumber fault) place input ⌝ }
+{
+    Counted::Refused(Refusal {
+        fault: fault,
+        place: place,
+        input: input,
+    })
+}
+
+// What the walk answers where it ends, n entries passed: 2 at a cut entry's place, then 3 at the place of the 129th, over.
+fn ended(cut: bool, at: usize, n: usize, over: usize, input: u8) -> Counted
+    ensures { λ r. ⌜ countedAnswer r ≡ pick cut (refused 2 at input) (pick (ltb mostEntries n) (refused 3 over input) (given n)) ⌝ }
+{
+    let many = n > refusal::MAX_ENTRIES;
+    if cut {
+        return refuse(Fault::Cut, at, input);
+    }
+    if many {
+        return refuse(Fault::TooMany, over, input);
+    }
+    Counted::Entries(n)
+}
+
 // How many entries s has, which is the caller's input of that number. Refusals: 1, 2, 3.
 pub fn count_entries(s: &[u8], input: u8) -> Counted
     ensures { λ r. ⌜ countedAnswer r ≡ count input (now (s .entry)) ⌝ }
 {
     if s.len() > refusal::MAX_BYTES {
-        return Counted::Refused(Refusal {
-            fault: Fault::TooLarge,
-            place: 0,
-            input: input,
-        });
+        return refuse(Fault::TooLarge, 0, input);
     }
     let mut at: usize = 0;
     let mut n: usize = 0;
@@ -104,21 +143,10 @@ pub fn count_entries(s: &[u8], input: u8) -> Counted
     loop {
         match frame_at(s, at) {
             Frame::End => {
-                if n > refusal::MAX_ENTRIES {
-                    return Counted::Refused(Refusal {
-                        fault: Fault::TooMany,
-                        place: over,
-                        input: input,
-                    });
-                }
-                return Counted::Entries(n);
+                return ended(false, at, n, over, input);
             }
             Frame::Cut => {
-                return Counted::Refused(Refusal {
-                    fault: Fault::Cut,
-                    place: at,
-                    input: input,
-                });
+                return ended(true, at, n, over, input);
             }
             Frame::Entry { ty: _, start, len } => {
                 if n == refusal::MAX_ENTRIES {

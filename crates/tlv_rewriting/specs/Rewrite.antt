@@ -26,12 +26,26 @@ kept c (x ∷ xs) = pick (keepsOf c (x .ty)) (x ∷ kept c xs) (kept c xs)
 unfoldable pub rewritten : Choice → List ℕ → Answer (List ℕ)
 rewritten c s = onGiven (λ (es : List Entry). encodeAll (kept c (contents es))) (framed 0 s)
 
+-- the entries that are kept, and one more at the end
+abbrev pub added : Choice → (ty : ℕ) → (value : List ℕ) → List Content → List Content
+added c t v cs = kept c cs ++ (content t v ∷ [])
+
 -- "Setting a type removes every entry of it and puts the new one last"
 unfoldable pub setLast : (ty : ℕ) → (value : List ℕ) → List Content → List Content
-setLast t v cs = kept (c.Without t) cs ++ (content t v ∷ [])
+setLast t v cs = added (c.Without t) t v cs
 
--- s with a type set: 1, 2, 3, then 13, 10
+-- the Rust's `push`: one more at the end "without removing existing entries of the same type"
+unfoldable pub pushed : (ty : ℕ) → (value : List ℕ) → List Content → List Content
+pushed t v cs = added c.All t v cs
+
+-- s with its entries changed, a value being put in: 1, 2, 3, then 13, 10
+abbrev pub changed : (List Content → List Content) → (value : List ℕ) → List ℕ → Answer (List ℕ)
+changed f v s = thenDo (framed 0 s) (λ (es : List Entry). pick (ltb mostValue (length v)) (refused 13 0 0) (sized (f (contents es))))
+
+-- s with a type set
 unfoldable pub withSet : (ty : ℕ) → (value : List ℕ) → List ℕ → Answer (List ℕ)
-withSet t v s =
-    thenDo (framed 0 s)
-    (λ (es : List Entry). pick (ltb mostValue (length v)) (refused 13 0 0) (sized (setLast t v (contents es))))
+withSet t v s = changed (setLast t v) v s
+
+-- s with one entry more
+unfoldable pub withPushed : (ty : ℕ) → (value : List ℕ) → List ℕ → Answer (List ℕ)
+withPushed t v s = changed (pushed t v) v s

@@ -1,4 +1,4 @@
-// Entries of a set written afresh (tlv.rs): all of it or all but a type, and a set with one value replaced.
+// Entries of a set written afresh (tlv.rs): all of it or all but a type, and a set with one value replaced or added.
 use refusal::Fault;
 use refusal::Written;
 use tlv::Counted;
@@ -10,8 +10,8 @@ ghost use Rattle.refusal.specs.Sizes.{mostBytes};
 ghost use Rattle.refusal.specs.Output.{output, emit, writtenAnswer, put};
 ghost use Rattle.tlv.specs.Entries.{contents, framing};
 ghost use Rattle.tlv_writing.specs.Encode.{encodeAll};
-ghost use Rattle.tlv_rewriting.specs.Rewrite.{keepsOf, kept, rewritten, withSet};
-ghost use Rattle.tlv_rewriting.specs.Loops.{extentOf};
+ghost use Rattle.tlv_rewriting.specs.Rewrite.{keepsOf, kept, rewritten, withSet, withPushed};
+ghost use Rattle.tlv_rewriting.specs.Loops.{extentOf, withAdded};
 ghost use Rattle.tlv_rewriting.specs.declared.Choice.the-variants.{All};
 
 // Which entries to write.
@@ -112,9 +112,9 @@ pub fn rewrite(s: &[u8], out: &mut [u8]) -> Written
     write_kept(s, Choice::All, out)
 }
 
-// The entries of s with every one of a type replaced by one new value at the end, at the start of out. Refusals: 1, 2, 3, 13, 10, 11.
-pub fn set_last(s: &[u8], ty: u8, value: &[u8], out: &mut [u8]) -> Written
-    ensures { λ r. ⌜ output (writtenAnswer r) (now (out .exit)) ≡ emit (withSet ty (now (value .entry)) (now (s .entry))) (now (out .entry)) ⌝ }
+// The entries of s that are kept and one more at the end, at the start of out.
+fn put_last(s: &[u8], choice: Choice, ty: u8, value: &[u8], out: &mut [u8]) -> Written
+    ensures { λ r. ⌜ output (writtenAnswer r) (now (out .exit)) ≡ emit (withAdded choice ty (now (value .entry)) (now (s .entry))) (now (out .entry)) ⌝ }
 {
     match tlv::count_entries(s, 0) {
         Counted::Refused(r) => {
@@ -125,7 +125,7 @@ pub fn set_last(s: &[u8], ty: u8, value: &[u8], out: &mut [u8]) -> Written
     if value.len() > tlv::MAX_EXTENDED_TLV_LENGTH {
         return refusal::refuse(Fault::ValueTooLong, 0);
     }
-    let rest = kept_extent(s, Choice::Without(ty));
+    let rest = kept_extent(s, choice);
     let end = rest.bytes;
     let need = end + tlv_writing::entry_size(value.len());
     if need > refusal::MAX_BYTES {
@@ -137,6 +137,20 @@ pub fn set_last(s: &[u8], ty: u8, value: &[u8], out: &mut [u8]) -> Written
     if need > out.len() {
         return refusal::refuse(Fault::NoRoom, 0);
     }
-    put_kept(s, Choice::Without(ty), out);
+    put_kept(s, choice, out);
     Written::Bytes(tlv_writing::put_entry(ty, value, out, end))
+}
+
+// The entries of s with every one of a type replaced by one new value at the end, at the start of out. Refusals: 1, 2, 3, 13, 10, 11.
+pub fn set_last(s: &[u8], ty: u8, value: &[u8], out: &mut [u8]) -> Written
+    ensures { λ r. ⌜ output (writtenAnswer r) (now (out .exit)) ≡ emit (withSet ty (now (value .entry)) (now (s .entry))) (now (out .entry)) ⌝ }
+{
+    put_last(s, Choice::Without(ty), ty, value, out)
+}
+
+// The entries of s, none removed, and one more at the end, at the start of out. Refusals: 1, 2, 3, 13, 10, 11.
+pub fn push(s: &[u8], ty: u8, value: &[u8], out: &mut [u8]) -> Written
+    ensures { λ r. ⌜ output (writtenAnswer r) (now (out .exit)) ≡ emit (withPushed ty (now (value .entry)) (now (s .entry))) (now (out .entry)) ⌝ }
+{
+    put_last(s, Choice::All, ty, value, out)
 }

@@ -15,7 +15,7 @@ use Rattle.refusal.specs.Output.{put, placing, placed}
 use Rattle.laws.proofs.Tests.{by-test}
 use Rattle.laws.proofs.Puts.{put-then, put-length}
 use Rattle.laws.proofs.Emits.{placed-fits, placed-not}
-use Rattle.tlv_writing.specs.Encode.{header, encode, sizeOf, entrySize, encoded, placedIf}
+use Rattle.tlv_writing.specs.Encode.{header, headed, encode, sizeOf, entrySize, encoded, placedIf}
 
 module _ (t n : ℕ) where
   pub header-short : n ≤ mostShort → header t n ≡ t ∷ n ∷ []
@@ -32,6 +32,21 @@ module _ (t n : ℕ) where
       by-test (leb n mostShort)
       (λ e. rw (header-short (leb-true _ _ e), e) (omega arith))
       (λ e. rw (header-long (leb-false _ _ e), e) (omega arith))
+
+  pub header-two : 2 ≤ length (header t n)
+  header-two =
+      by-test (leb n mostShort) (λ e. rw (header-short (leb-true _ _ e)) (omega arith)) (λ e. rw (header-long (leb-false _ _ e)) (omega arith))
+
+  pub header-four : mostShort < n → length (header t n) ≡ 4
+  header-four h = ap length (header-long h)
+
+  pub headed-too-long : mostValue < n → refused 13 0 0 ≡ headed t n
+  unfolding headed
+  headed-too-long h = simp (lt-ltb _ _ h)
+
+  pub headed-is : n ≤ mostValue → headed t n ≡ given (header t n)
+  unfolding headed
+  headed-is h = simp (le-ltb _ _ h)
 
   pub put-short : (out : List ℕ) (at : ℕ) → n ≤ mostShort → set (set out at t) (at + 1) n ≡ put out at (header t n)
   unfolding put

@@ -14,6 +14,10 @@ use Rattle.tlv.specs.Entries.{Entry, Content}
 unfoldable pub header : (ty n : ℕ) → List ℕ
 header t n = pick (leb n mostShort) (t ∷ n ∷ []) (t ∷ 255 ∷ (n / 256) ∷ (n % 256) ∷ [])
 
+-- and that alone: 13, "value over 65,535 bytes ... to be written"
+unfoldable pub headed : (ty n : ℕ) → Answer (List ℕ)
+headed t n = pick (ltb mostValue n) (refused 13 0 0) (given (header t n))
+
 -- one entry
 unfoldable pub encode : (ty : ℕ) → (value : List ℕ) → List ℕ
 encode t v = header t (length v) ++ v
@@ -26,7 +30,7 @@ sizeOf n = pick (leb n mostShort) (n + 2) (n + 4)
 unfoldable pub entrySize : ℕ → ℕ
 entrySize n = pick (leb n mostValue) (sizeOf n) 0
 
--- 13: "value over 65,535 bytes ... to be written"
+-- 13, as for the header
 unfoldable pub encoded : (ty : ℕ) → (value : List ℕ) → Answer (List ℕ)
 encoded t v = pick (ltb mostValue (length v)) (refused 13 0 0) (given (encode t v))
 

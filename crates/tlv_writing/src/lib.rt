@@ -6,7 +6,7 @@ ghost use Prim.Native.Nat.{_+_, _≤_};
 ghost use lib.ListN.{length};
 ghost use Rattle.refusal.specs.Sizes.{mostValue};
 ghost use Rattle.refusal.specs.Output.{output, emit, writtenAnswer, put, placing};
-ghost use Rattle.tlv_writing.specs.Encode.{header, sizeOf, entrySize, encoded, placedIf};
+ghost use Rattle.tlv_writing.specs.Encode.{header, headed, entrySize, encoded, placedIf};
 
 // How many bytes an entry takes whose value has n bytes; 0 where n is over 65,535, since no entry has so long a value.
 pub fn entry_size(n: usize) -> usize
@@ -23,7 +23,7 @@ pub fn entry_size(n: usize) -> usize
 
 // The header of an entry whose value has n bytes, from at on; the place after it.
 fn put_header(ty: u8, n: usize, out: &mut [u8], at: usize) -> usize
-    requires { ⌜ (n ≤ mostValue) × (at + sizeOf n ≤ length (now out)) ⌝ }
+    requires { ⌜ (n ≤ mostValue) × (at + length (header ty n) ≤ length (now out)) ⌝ }
     ensures { λ r. ⌜ (r ≡ at + length (header ty n)) × (now (out .exit) ≡ put (now (out .entry)) at (header ty n)) ⌝ }
 {
     out[at] = ty;
@@ -35,6 +35,19 @@ fn put_header(ty: u8, n: usize, out: &mut [u8], at: usize) -> usize
     out[at + 2] = (n / 256) as u8;
     out[at + 3] = (n % 256) as u8;
     at + 4
+}
+
+// The header alone of an entry whose value has len bytes, at the start of out. Refusals: 13, 11.
+pub fn encode_header(ty: u8, len: usize, out: &mut [u8]) -> Written
+    ensures { λ r. ⌜ output (writtenAnswer r) (now (out .exit)) ≡ emit (headed ty len) (now (out .entry)) ⌝ }
+{
+    if len > tlv::MAX_EXTENDED_TLV_LENGTH {
+        return refusal::refuse(Fault::ValueTooLong, 0);
+    }
+    if entry_size(len) - len > out.len() {
+        return refusal::refuse(Fault::NoRoom, 0);
+    }
+    Written::Bytes(put_header(ty, len, out, 0))
 }
 
 // An entry into out from at on, and the place after it; or nothing, and at, where it has no room or its value is over 65,535 bytes.

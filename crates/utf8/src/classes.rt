@@ -1,6 +1,6 @@
 // The table of the classes of first bytes, one entry for each byte value: 1 is a character by itself, 2 has one byte after it, 3 to 5 have
 // two, 6 to 8 three, and 0 begins no character.
-pub const CLASSES: [u8; 256] = [
+pub(crate) const CLASSES: [u8; 256] = [
     // 00-7F
     1,
     1,

@@ -5,12 +5,12 @@ use mathlib.Core.Bool.{true}
 use mathlib.Core.List.{List}
 use Prim.Native.Nat.{ℕ}
 use native.Mathlib.Omega.{arith}
-use borrow.Author.Tests.{not-true, not-false}
 use borrow.Author.Needs.{needs}
 use Rattle.refusal.specs.Answer.{given}
 use Rattle.laws.proofs.Emits.{emit-refused, emit-no-room, emit-done}
 use Rattle.base16.specs.Base16.{decoded}
 use Rattle.base16.specs.Loops.{allDigits, paired}
+use Rattle.base16.proofs.Scans.{bad-tells, good-tells}
 use Rattle.base16.proofs.Pairs.{length-paired}
 use Rattle.base16.proofs.Decodes.{decoded-large, decoded-odd, decoded-bad, decoded-good}
 use Rattle.base16.proofs.decode.Statement.{statement}
@@ -22,12 +22,10 @@ module _ (c : tie.Else3) where
   text = c .before .before .before .before .before .before .args .text .now
 
   all-good : allDigits text ≡ true
-  all-good =
-      let d = c .before in
-      sym (d .all-digits .ensures) ∙ not-false (d .all-digits .result) (c .if3 .left)
+  all-good = good-tells text (let e = c .before .before .first-bad .ensures in omega arith)
 
   good : decoded text ≡ given (paired text)
-  good = decoded-good text (omega arith) (c .before .before .if2 .left) all-good
+  good = decoded-good text (omega arith) (omega arith) all-good
 
 refuse-requires : tie.Need-refuse-requires
 refuse-requires c κs = search needs
@@ -35,27 +33,22 @@ refuse-requires c κs = search needs
 returns : tie.Need-returns
 returns c = rw (c .refuse .ensures) (emit-refused _ _ _ _ _ (decoded-large _ (omega arith)))
 
+first-bad-requires : tie.Need-first-bad-requires
+first-bad-requires c κs = search needs
+
 refuse-requires-2 : tie.Need-refuse-requires-2
 refuse-requires-2 c κs = search needs
 
 returns-2 : tie.Need-returns-2
-returns-2 c = rw (c .refuse2 .ensures) (emit-refused _ _ _ _ _ (decoded-odd _ (omega arith) (c .before .if2 .taken)))
-
-all-digits-requires : tie.Need-all-digits-requires
-all-digits-requires c κs = search needs
-
-first-bad-requires : tie.Need-first-bad-requires
-first-bad-requires c κs = search needs
+returns-2 c = rw (c .refuse2 .ensures) (emit-refused _ _ _ _ _ (decoded-odd _ (omega arith) (omega arith)))
 
 refuse-requires-3 : tie.Need-refuse-requires-3
 refuse-requires-3 c κs = search needs
 
 returns-3 : tie.Need-returns-3
 returns-3 c =
-    let b = c .before in
-    let d = b .before .before in
-    let bad = sym (d .all-digits .ensures) ∙ not-true (d .all-digits .result) (b .before .if3 .taken) in
-    rw (c .refuse3 .ensures, b .first-bad .ensures) (emit-refused _ _ _ _ _ (decoded-bad _ (omega arith) (d .before .if2 .left) bad))
+    let e = c .before .before .before .first-bad .ensures in
+    rw (c .refuse3 .ensures, e) (emit-refused _ _ _ _ _ (decoded-bad _ (omega arith) (omega arith) (bad-tells _ (omega arith))))
 
 refuse-requires-4 : tie.Need-refuse-requires-4
 refuse-requires-4 c κs = search needs
@@ -83,10 +76,9 @@ decode-spec =
     (tie.spec
     refuse-requires
     returns
+    first-bad-requires
     refuse-requires-2
     returns-2
-    all-digits-requires
-    first-bad-requires
     refuse-requires-3
     returns-3
     refuse-requires-4

@@ -7,11 +7,12 @@ use native.Mathlib.Omega.{arith}
 use lib.ListN.{length}
 use borrow.Author.Needs.{needs}
 use borrow.Author.Tests.{lt-ltb, le-ltb}
+use Rattle.refusal.specs.Sizes.{mostBytes}
 use Rattle.refusal.specs.Answer.{onGiven}
 use Rattle.change_lists.specs.Operations.{operations}
 use Rattle.change_lists.proofs.Reading.{opsFrom}
 use Rattle.change_lists.proofs.Places.{turn-end, turn-bad, turn-set, turn-removal, set-within, removal-inside}
-use Rattle.change_lists.proofs.Counts.{tally, tally-start, tally-more, tally-over, tally-fits, tally-bad}
+use Rattle.change_lists.proofs.Counts.{tally, tally-start, tally-more, tally-end, tally-bad}
 use Rattle.change_lists.proofs.count_operations.Statement.{statement}
 use Rattle.change_lists.proofs.count_operations.Tie as tie
 
@@ -22,13 +23,18 @@ Inv-loop list input at₀ n₀ over₀ at n over =
 abbrev μ-loop : tie.MeasureT-loop
 μ-loop list input at₀ n₀ over₀ at n over = length list - at
 
+refuse-requires : tie.Need-refuse-requires Inv-loop μ-loop
+refuse-requires c κs = tt
+
 returns : tie.Need-returns Inv-loop μ-loop
 unfolding operations
-returns c = simp (lt-ltb _ _ (c .if1 .taken))
+returns c = c .refuse .ensures ∙ simp (lt-ltb mostBytes _ (c .before .if1 .taken))
 
 loop-holds : tie.Need-loop-holds Inv-loop μ-loop
 unfolding operations
-loop-holds c = (search needs, search needs, simp (le-ltb _ _ (c .if1 .left)) (tally-start _ _))
+loop-holds c =
+    let short : length (c .before .before .args .list .now) ≤ mostBytes = omega arith in
+    (search needs, search needs, simp (le-ltb _ _ short) (tally-start _ _))
 
 operation-at-requires : tie.Need-operation-at-requires Inv-loop μ-loop
 operation-at-requires c κs = tt
@@ -36,26 +42,28 @@ operation-at-requires c κs = tt
 enum-told : tie.Need-enum-told Inv-loop μ-loop
 enum-told c = search needs
 
+ended-requires : tie.Need-ended-requires Inv-loop μ-loop
+ended-requires c κs = tt
+
 returns-2 : tie.Need-returns-2 Inv-loop μ-loop
 returns-2 c =
     let h = c .before .before .before in
     let end = turn-end _ _ _ (h .operation-at .ensures) (c .before .enum-told .given .1) in
-    sym (tally-over _ _ _ (c .if2 .taken)) ∙ ap (tally _ _ _) (sym end) ∙ h .before .loop .inv .2
-
-returns-3 : tie.Need-returns-3 Inv-loop μ-loop
-returns-3 c =
-    let h = c .before .before .before in
-    let end = turn-end _ _ _ (h .operation-at .ensures) (c .before .enum-told .given .1) in
-    sym (tally-fits _ _ _ (c .if2 .left)) ∙ ap (tally _ _ _) (sym end) ∙ h .before .loop .inv .2
+    let goes-on = ap (tally _ _ _) (sym end) ∙ h .before .loop .inv .2 in
+    c .ended .ensures ∙ (sym (tally-end _ _ _) ∙ goes-on)
 
 enum-told-2 : tie.Need-enum-told-2 Inv-loop μ-loop
 enum-told-2 c = search needs
 
-returns-4 : tie.Need-returns-4 Inv-loop μ-loop
-returns-4 c =
-    let h = c .before .before in
-    let bad = turn-bad _ _ _ (h .operation-at .ensures) (c .enum-told2 .given .1) in
-    sym (tally-bad _ _ _ _) ∙ ap (tally _ _ _) (sym bad) ∙ h .before .loop .inv .2
+ended-requires-2 : tie.Need-ended-requires-2 Inv-loop μ-loop
+ended-requires-2 c κs = tt
+
+returns-3 : tie.Need-returns-3 Inv-loop μ-loop
+returns-3 c =
+    let h = c .before .before .before in
+    let bad = turn-bad _ _ _ (h .operation-at .ensures) (c .before .enum-told2 .given .1) in
+    let goes-on = ap (tally _ _ _) (sym bad) ∙ h .before .loop .inv .2 in
+    c .ended2 .ensures ∙ (sym (tally-bad _ _ _ _) ∙ goes-on)
 
 enum-known-start : tie.Need-enum-known-start Inv-loop μ-loop
 enum-known-start c = search needs
@@ -127,14 +135,16 @@ count-operations-spec =
     (tie.spec
     Inv-loop
     μ-loop
+    refuse-requires
     returns
     loop-holds
     operation-at-requires
     enum-told
+    ended-requires
     returns-2
-    returns-3
     enum-told-2
-    returns-4
+    ended-requires-2
+    returns-3
     enum-known-start
     over-at-requires
     add-n

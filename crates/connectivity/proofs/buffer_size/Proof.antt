@@ -16,22 +16,22 @@ shared-slice-read-size : tie.Need-shared-slice-read-size
 shared-slice-read-size c = search needs
 
 cast-size : tie.Need-cast-size
-cast-size c = omega (arith, c .shared-slice-known .given 7)
+cast-size c = omega (arith, c .shared-slice-known .given 7, c .shared-slice-known .given 8)
 
 mul-size : tie.Need-mul-size
-mul-size c = omega (arith, c .shared-slice-known .given 7)
+mul-size c = omega (arith, c .shared-slice-known .given 7, c .shared-slice-known .given 8)
 
 shared-slice-read-size-2 : tie.Need-shared-slice-read-size-2
 shared-slice-read-size-2 c = search needs
 
 cast-size-2 : tie.Need-cast-size-2
-cast-size-2 c = omega (arith, c .shared-slice-known2 .given 8)
+cast-size-2 c = omega (arith, c .shared-slice-known2 .given 8, c .shared-slice-known2 .given 9)
 
 add-size : tie.Need-add-size
-add-size c = omega (arith, c .before .shared-slice-known .given 7, c .shared-slice-known2 .given 8)
+add-size c = omega (arith, c .before .shared-slice-known .given 7, c .shared-slice-known2 .given 8, c .shared-slice-known2 .given 9)
 
 returns-2 : tie.Need-returns-2
-returns-2 c = buffer-is _ (c .before .before .if1 .left)
+returns-2 c = buffer-is _ _ (omega arith) (omega (arith, c .before .before .if1 .left))
 
 pub buffer-size-spec : {M : Type 1} → statement M
 buffer-size-spec =

@@ -3,6 +3,7 @@
 use mathlib.Core.Path.{sym, ap, _∙_}
 use mathlib.Core.List.{List}
 use Prim.Native.Nat.{ℕ}
+use native.Mathlib.Omega.{arith}
 use Rattle.refusal.specs.Numbered.{nth}
 use Rattle.diag_rows.specs.Rows.{addressParts}
 use Rattle.diag_rules.specs.Answers.{judgedAnswer}
@@ -22,7 +23,7 @@ returns : tie.Need-returns
 returns c =
     let t = c .before in
     let kept = sym (ap judgedAnswer (t .enum-told .given .1)) ∙ t .before .before .check-value .ensures in
-    row-kept (λ (v : List ℕ). nth (addressParts v) (t .before .before .before .before .args .k)) _ _ _ kept _ (part-out _ _ (c .if1 .taken))
+    row-kept (λ (v : List ℕ). nth (addressParts v) (t .before .before .before .before .args .k)) _ _ _ kept _ (part-out _ _ (omega (arith, c .if1 .taken)))
 
 mul-t6 : tie.Need-mul-t6
 mul-t6 c = search needs
@@ -34,7 +35,7 @@ returns-2 : tie.Need-returns-2
 returns-2 c =
     let t = c .before in
     let kept = sym (ap judgedAnswer (t .enum-told .given .1)) ∙ t .before .before .check-value .ensures in
-    row-kept (λ (v : List ℕ). nth (addressParts v) (t .before .before .before .before .args .k)) _ _ _ kept _ (part-in _ _ (c .if1 .left))
+    row-kept (λ (v : List ℕ). nth (addressParts v) (t .before .before .before .before .args .k)) _ _ _ kept _ (part-in _ _ _ _ (omega arith) (omega arith) (omega (arith, c .if1 .left)))
 
 returns-3 : tie.Need-returns-3
 returns-3 c =

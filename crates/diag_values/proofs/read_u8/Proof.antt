@@ -1,6 +1,6 @@
 -- `diag_values::read_u8` meets its contract.
 -- Assumes nothing.
-use mathlib.Core.Path.{refl, sym, ap, _∙_}
+use mathlib.Core.Path.{sym, ap, _∙_}
 use mathlib.Core.List.{List}
 use Prim.Native.Nat.{ℕ}
 use native.Mathlib.Omega.{arith}
@@ -30,7 +30,7 @@ returns : tie.Need-returns
 returns c =
     let t = c .before in
     let kept = sym (ap judgedAnswer (t .enum-told .given .1)) ∙ t .before .before .check-value .ensures in
-    read-kept (λ (v : List ℕ). byteAt v 0) _ _ _ kept _ refl
+    read-kept (λ (v : List ℕ). byteAt v 0) _ _ _ kept _ (omega (arith, c .shared-slice-known2 .given 0))
 
 returns-2 : tie.Need-returns-2
 returns-2 c =

@@ -1,6 +1,7 @@
 -- `diag_values::u32_at` meets its contract.
 -- Assumes nothing.
-use Rattle.diag_values.proofs.Numbers.{four-spell}
+use Rattle.diag_values.proofs.Numbers.{four-of}
+use native.Mathlib.Omega.{arith}
 use borrow.Author.Needs.{needs}
 use Rattle.diag_values.proofs.u32_at.Statement.{statement}
 use Rattle.diag_values.proofs.u32_at.Tie as tie
@@ -27,7 +28,8 @@ add-result : tie.Need-add-result
 add-result c = search needs
 
 returns : tie.Need-returns
-returns c = rw (c .before .u16-at .ensures, c .u16-at2 .ensures) (four-spell _ _ (c .before .before .before .pre))
+returns c =
+    four-of _ _ _ _ _ (c .before .before .before .pre) (c .before .u16-at .ensures) (c .u16-at2 .ensures) (omega arith)
 
 pub u32-at-spec : {M : Type 1} → statement M
 u32-at-spec =

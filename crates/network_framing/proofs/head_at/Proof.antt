@@ -7,7 +7,7 @@ use denote.Ref.{now}
 use lib.ListN.{getD}
 use Rattle.network_framing.specs.Tlvs.{bytesFor}
 use Rattle.network_framing.specs.Place.{headPlace}
-use Rattle.network_framing.proofs.Agrees.{head-is}
+use Rattle.network_framing.proofs.Agrees.{head-is, head-short, head-inner}
 use Rattle.network_framing.specs.declared.Head.the-variants.{Inner, Short}
 use borrow.Author.Needs.{needs}
 use Rattle.network_framing.proofs.head_at.Statement.{statement}
@@ -56,23 +56,19 @@ add-need-3 c =
     omega (arith, c .shared-slice-known .given (a .start + 1))
 
 returns-4 : tie.Need-returns-4
-unfolding headPlace
 returns-4 c =
     let e3 = c .before .before in
-    let a = c .before .before .before .before .before .args in
-    head-is (now (a .s)) (a .start) (a .end) Short
-    (simp (lt-leb _ _ (e3 .before .before .if1 .left), le-ltb _ _ (e3 .before .if2 .left), le-ltb _ _ (e3 .if3 .left), lt-ltb _ _ (c .if4 .taken)))
+    let byte = c .before .shared-slice-known .given (e3 .before .before .before .args .start + 1) in
+    head-short _ _ _ (e3 .before .before .if1 .left) (e3 .before .if2 .left) (e3 .if3 .left) _ (omega (arith, byte)) (c .if4 .taken)
 
 add-t12 : tie.Need-add-t12
 add-t12 c = search needs
 
 returns-5 : tie.Need-returns-5
-unfolding headPlace
 returns-5 c =
     let e3 = c .before .before in
-    let a = c .before .before .before .before .before .args in
-    head-is (now (a .s)) (a .start) (a .end) (Inner (a .start + (2 + bytesFor (getD (now (a .s)) (a .start + 1) 0))))
-    (simp (lt-leb _ _ (e3 .before .before .if1 .left), le-ltb _ _ (e3 .before .if2 .left), le-ltb _ _ (e3 .if3 .left), le-ltb _ _ (c .if4 .left)))
+    let byte = c .before .shared-slice-known .given (e3 .before .before .before .args .start + 1) in
+    head-inner _ _ _ (e3 .before .before .if1 .left) (e3 .before .if2 .left) (e3 .if3 .left) _ (omega (arith, byte)) _ (omega arith) (c .if4 .left)
 
 pub head-at-spec : {M : Type 1} → statement M
 head-at-spec =

@@ -6,7 +6,7 @@ use Prim.Native.Nat.{_+_, _/_}
 use denote.Ref.{now}
 use lib.ListN.{getD}
 use Rattle.network_framing.specs.Place.{subPlace}
-use Rattle.network_framing.proofs.Agrees.{sub-is}
+use Rattle.network_framing.proofs.Agrees.{sub-is, sub-item, sub-cut}
 use Rattle.network_framing.specs.declared.SubTlv.the-variants.{Item, Cut, End}
 use borrow.Author.Needs.{needs}
 use Rattle.network_framing.proofs.sub_in.Statement.{statement}
@@ -57,20 +57,17 @@ add-t13 : tie.Need-add-t13
 add-t13 c = search needs
 
 returns-4 : tie.Need-returns-4
-unfolding subPlace
 returns-4 c =
     let e3 = c .before .before .before in
-    let a = c .before .before .before .before .before .before .args in
-    sub-is (now (a .s)) (a .at) (a .end) (Item (getD (now (a .s)) (a .at) 0 / 2) (a .at + 2) (getD (now (a .s)) (a .at + 1) 0))
-    (simp (lt-leb _ _ (e3 .before .before .if1 .left), le-ltb _ _ (e3 .before .if2 .left), le-ltb _ _ (e3 .if3 .left), le-leb _ _ (c .before .if4 .taken)))
+    let byte = c .before .before .shared-slice-known .given (e3 .before .before .before .args .at + 1) in
+    sub-item _ _ _ (e3 .before .before .if1 .left) (e3 .before .if2 .left) (e3 .if3 .left) _ (omega (arith, byte)) _ _
+    (omega arith) (omega arith) (c .before .if4 .taken)
 
 returns-5 : tie.Need-returns-5
-unfolding subPlace
 returns-5 c =
     let e3 = c .before .before in
-    let a = c .before .before .before .before .before .args in
-    sub-is (now (a .s)) (a .at) (a .end) Cut
-    (simp (lt-leb _ _ (e3 .before .before .if1 .left), le-ltb _ _ (e3 .before .if2 .left), le-ltb _ _ (e3 .if3 .left), lt-leb _ _ (c .if4 .left)))
+    let byte = c .before .shared-slice-known .given (e3 .before .before .before .args .at + 1) in
+    sub-cut _ _ _ (e3 .before .before .if1 .left) (e3 .before .if2 .left) (e3 .if3 .left) _ (omega (arith, byte)) (c .if4 .left)
 
 pub sub-in-spec : {M : Type 1} → statement M
 sub-in-spec =

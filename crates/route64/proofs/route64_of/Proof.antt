@@ -45,7 +45,7 @@ returns : tie.Need-returns
 returns c =
     let l = c .before .before .before .before .before .before .before .before .before in
     let s = l .before .before in
-    routes-are _ _ _ (s .pre .1) (sym (part-elements 8 1 (s .args .v .now) (omega arith))) (l .route-rows .ensures)
+    routes-are _ _ _ _ (s .pre .1) (sym (part-elements 8 1 (s .args .v .now) (omega arith))) (l .route-rows .ensures) (omega arith)
 
 pub route64-of-spec : {M : Type 1} → statement M
 route64-of-spec =

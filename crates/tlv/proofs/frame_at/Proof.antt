@@ -3,7 +3,8 @@
 use borrow.Author.Needs.{needs}
 use borrow.Author.Tests.{lt-ltb, le-ltb, le-leb, lt-leb, eq-eqb, ne-eqb}
 use native.Mathlib.Omega.{arith}
-use Prim.Native.Nat.{_+_}
+use Prim.Native.Nat.{_+_, _-_, _≤_, _<_}
+use lib.ListN.{length}
 use Rattle.tlv.specs.Place.{frameAt, valueAt}
 use Rattle.tlv.proofs.frame_at.Statement.{statement}
 use Rattle.tlv.proofs.frame_at.Tie as tie
@@ -38,7 +39,9 @@ returns-3 : tie.Need-returns-3
 unfolding frameAt
 returns-3 c =
     let e2 = c .before .before .before .before in
-    simp (lt-leb _ _ (e2 .before .if1 .left), le-ltb _ _ (e2 .if2 .left), eq-eqb _ _ (c .before .if3 .taken), lt-ltb _ _ (c .if4 .taken))
+    let a = e2 .before .before .args in
+    let few : length (a .s .now) - a .at < 4 = omega arith in
+    simp (lt-leb _ _ (e2 .before .if1 .left), le-ltb _ _ (e2 .if2 .left), eq-eqb _ _ (c .before .if3 .taken), lt-ltb _ _ few)
 
 add-long : tie.Need-add-long
 add-long c = search needs
@@ -80,14 +83,18 @@ unfolding frameAt valueAt
 returns-4 c =
     let e4 = c .before .before .before in
     let e2 = e4 .before .before .before .before in
-    simp (lt-leb _ _ (e2 .before .if1 .left), le-ltb _ _ (e2 .if2 .left), eq-eqb _ _ (e4 .before .if3 .taken), le-ltb _ _ (e4 .if4 .left), le-leb _ _ (c .if5 .taken))
+    let a = e2 .before .before .args in
+    let enough : 4 ≤ length (a .s .now) - a .at = omega arith in
+    simp (lt-leb _ _ (e2 .before .if1 .left), le-ltb _ _ (e2 .if2 .left), eq-eqb _ _ (e4 .before .if3 .taken), le-ltb _ _ enough, le-leb _ _ (c .if5 .taken))
 
 returns-5 : tie.Need-returns-5
 unfolding frameAt valueAt
 returns-5 c =
     let e4 = c .before .before .before in
     let e2 = e4 .before .before .before .before in
-    simp (lt-leb _ _ (e2 .before .if1 .left), le-ltb _ _ (e2 .if2 .left), eq-eqb _ _ (e4 .before .if3 .taken), le-ltb _ _ (e4 .if4 .left), lt-leb _ _ (c .if5 .left))
+    let a = e2 .before .before .args in
+    let enough : 4 ≤ length (a .s .now) - a .at = omega arith in
+    simp (lt-leb _ _ (e2 .before .if1 .left), le-ltb _ _ (e2 .if2 .left), eq-eqb _ _ (e4 .before .if3 .taken), le-ltb _ _ enough, lt-leb _ _ (c .if5 .left))
 
 add-if6 : tie.Need-add-if6
 add-if6 c = search needs

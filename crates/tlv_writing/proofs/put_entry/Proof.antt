@@ -2,7 +2,8 @@
 -- Assumes nothing.
 use mathlib.Core.Path.{_∙_}
 use native.Mathlib.Omega.{arith}
-use Rattle.tlv_writing.proofs.Encodes.{entry-size, too-long-placed, no-room-placed, value-placed}
+use lib.ListN.{length}
+use Rattle.tlv_writing.proofs.Encodes.{size-header, entry-size, too-long-placed, no-room-placed, value-placed}
 use borrow.Author.Needs.{needs}
 use Rattle.tlv_writing.proofs.put_entry.Statement.{statement}
 use Rattle.tlv_writing.proofs.put_entry.Tie as tie
@@ -28,7 +29,8 @@ put-header-requires : tie.Need-put-header-requires
 put-header-requires c κs =
     let z = c .before .before in
     let long = z .before .before .if1 .left in
-    (long, omega (arith, z .entry-size .ensures ∙ entry-size _ long))
+    let a = z .before .before .before .before .before .args in
+    (long, omega (arith, z .entry-size .ensures ∙ entry-size _ long, size-header (a .ty) (length (a .value .now))))
 
 put-bytes-requires : tie.Need-put-bytes-requires
 put-bytes-requires c κs = search needs

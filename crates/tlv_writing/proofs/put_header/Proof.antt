@@ -3,13 +3,13 @@
 use mathlib.Core.Path.{refl}
 use native.Mathlib.Omega.{arith}
 use lib.ListN.{length-set}
-use Rattle.tlv_writing.proofs.Encodes.{header-short, header-long, put-short, put-long, size-bound}
+use Rattle.tlv_writing.proofs.Encodes.{header-short, header-long, header-two, header-four, put-short, put-long}
 use borrow.Author.Needs.{needs}
 use Rattle.tlv_writing.proofs.put_header.Statement.{statement}
 use Rattle.tlv_writing.proofs.put_header.Tie as tie
 
 slice-write-out : tie.Need-slice-write-out
-slice-write-out c = omega (arith, size-bound (c .args .n))
+slice-write-out c = omega (arith, header-two (c .args .ty) (c .args .n))
 
 cast-out : tie.Need-cast-out
 cast-out c = search needs
@@ -18,7 +18,7 @@ add-out : tie.Need-add-out
 add-out c = search needs
 
 slice-write-out-2 : tie.Need-slice-write-out-2
-slice-write-out-2 c = simp length-set (omega (arith, size-bound (c .before .args .n)))
+slice-write-out-2 c = simp length-set (omega (arith, header-two (c .before .args .ty) (c .before .args .n)))
 
 add-result : tie.Need-add-result
 add-result c = search needs
@@ -33,7 +33,7 @@ add-out-2 : tie.Need-add-out-2
 add-out-2 c = search needs
 
 slice-write-out-3 : tie.Need-slice-write-out-3
-slice-write-out-3 c = simp length-set (omega (arith, size-bound (c .before .args .n)))
+slice-write-out-3 c = simp length-set (omega (arith, header-four (c .before .args .ty) (c .before .args .n) (c .if1 .left)))
 
 cast-out-2 : tie.Need-cast-out-2
 cast-out-2 c = search needs
@@ -42,7 +42,7 @@ add-out-3 : tie.Need-add-out-3
 add-out-3 c = search needs
 
 slice-write-out-4 : tie.Need-slice-write-out-4
-slice-write-out-4 c = simp length-set (omega (arith, size-bound (c .before .args .n)))
+slice-write-out-4 c = simp length-set (omega (arith, header-four (c .before .args .ty) (c .before .args .n) (c .if1 .left)))
 
 cast-out-3 : tie.Need-cast-out-3
 cast-out-3 c = search needs
@@ -51,7 +51,7 @@ add-out-4 : tie.Need-add-out-4
 add-out-4 c = search needs
 
 slice-write-out-5 : tie.Need-slice-write-out-5
-slice-write-out-5 c = simp length-set (omega (arith, size-bound (c .before .args .n)))
+slice-write-out-5 c = simp length-set (omega (arith, header-four (c .before .args .ty) (c .before .args .n) (c .if1 .left)))
 
 add-result-2 : tie.Need-add-result-2
 add-result-2 c = search needs

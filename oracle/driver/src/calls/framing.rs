@@ -1,6 +1,6 @@
-//! Framing and the writing of entries: `frame`, `one`, `rewrite`, `entry`, `raw`.
+//! Framing and the writing of entries: `frame`, `one`, `rewrite`, `entry`, `header`, `raw`.
 
-use meshcop::tlv::TlvEntry;
+use meshcop::tlv::{self, TlvEntry};
 
 use super::{lent, value};
 use crate::answer::{Answer, Found};
@@ -33,6 +33,12 @@ pub fn rewrite(dataset: &[u8], cap: u64) -> Answer {
 pub fn entry(ty: u8, bytes: Vec<u8>, cap: u64) -> Answer {
     let mut written = Vec::new();
     TlvEntry::new(ty, bytes).encode(&mut written).map_err(framed::refusal_of_tlv)?;
+    lent(&written, cap)
+}
+
+pub fn header(ty: u8, length: usize, cap: u64) -> Answer {
+    let mut written = Vec::new();
+    tlv::encode_header(ty, length, &mut written).map_err(framed::refusal_of_tlv)?;
     lent(&written, cap)
 }
 

@@ -1,4 +1,4 @@
-//! Requests on changes of a dataset: `set`, `remove`.
+//! Requests on changes of a dataset: `set`, `push`, `remove`.
 
 use meshcop::dataset::Dataset;
 
@@ -36,26 +36,37 @@ pub fn shaped(number: usize) -> Vec<u8> {
 pub const SET: Maker = Maker {
     call: "set",
     share: 24,
-    random: random_set,
-    edges: set_edges,
-    short: &[
-        Family {
-            size: SHAPED,
-            words: |number| format!("{SHAPED_TYPE} - {} {}", bytes_word(&shaped(number)), 2 + number % 7),
-        },
-        Family {
-            size: SHAPED,
-            words: |number| format!("{SHAPED_TYPE} 44 {} {}", bytes_word(&shaped(number)), 3 + number % 7),
-        },
-        Family { size: 256, words: |ty| format!("{ty} 44 03014107000c00 {}", 8 + ty % 4) },
-    ],
+    random: |random| random_set(random, "set"),
+    edges: |random| set_edges(random, "set"),
+    short: SHORT,
 };
+
+/// Asked with the same words.
+pub const PUSH: Maker = Maker {
+    call: "push",
+    share: 12,
+    random: |random| random_set(random, "push"),
+    edges: |random| set_edges(random, "push"),
+    short: SHORT,
+};
+
+const SHORT: &[Family] = &[
+    Family {
+        size: SHAPED,
+        words: |number| format!("{SHAPED_TYPE} - {} {}", bytes_word(&shaped(number)), 2 + number % 7),
+    },
+    Family {
+        size: SHAPED,
+        words: |number| format!("{SHAPED_TYPE} 44 {} {}", bytes_word(&shaped(number)), 3 + number % 7),
+    },
+    Family { size: 256, words: |ty| format!("{ty} 44 03014107000c00 {}", 8 + ty % 4) },
+];
 
 fn set_words(ty: u8, value: &[u8], dataset: &[u8]) -> String {
     format!("{ty} {} {}", bytes_word(value), bytes_word(dataset))
 }
 
-fn random_set(random: &mut Random) -> String {
+fn random_set(random: &mut Random, call: &str) -> String {
     let words = match random.below(600) {
         0 => huge_set(random),
         1..=20 => set_near_most_bytes(random),
@@ -66,7 +77,7 @@ fn random_set(random: &mut Random) -> String {
             set_words(ty, &value, &typed_dataset(random, ty))
         }
     };
-    with_cap(random, "set", &words)
+    with_cap(random, call, &words)
 }
 
 fn some_type(random: &mut Random) -> u8 {
@@ -114,17 +125,17 @@ fn set_near_most_entries(random: &mut Random) -> String {
     set_words(ty, &value, &dataset)
 }
 
-fn set_edges(random: &mut Random) -> Vec<String> {
+fn set_edges(random: &mut Random, call: &str) -> Vec<String> {
     let mut all_words = set_value_edges(random);
     all_words.extend(set_size_edges(random));
     for words in with_types(&dataset_edges(random)) {
         let (ty, dataset) = words.split_once(' ').expect("two words");
         all_words.push(format!("{ty} {} {dataset}", bytes_word(&random.bytes(2))));
     }
-    let mut edges = with_edge_caps_in_turn("set", &all_words);
+    let mut edges = with_edge_caps_in_turn(call, &all_words);
     let longest = value_to_fill(random, 3, &[7, 0], MOST_BYTES);
-    edges.extend(with_each_edge_cap("set", &set_words(3, &longest, &[7, 0])));
-    edges.extend(with_each_edge_cap("set", &set_words(3, &random.bytes(65_536), &[7, 0])));
+    edges.extend(with_each_edge_cap(call, &set_words(3, &longest, &[7, 0])));
+    edges.extend(with_each_edge_cap(call, &set_words(3, &random.bytes(65_536), &[7, 0])));
     edges
 }
 

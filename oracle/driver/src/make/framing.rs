@@ -1,4 +1,4 @@
-//! Requests on framing and the writing of entries: `frame`, `one`, `rewrite`, `entry`, `raw`.
+//! Requests on framing and the writing of entries: `frame`, `one`, `rewrite`, `entry`, `header`, `raw`.
 
 use meshcop::tlv::TlvSet;
 
@@ -124,6 +124,22 @@ fn entry_edges(random: &mut Random) -> Vec<String> {
     edges.extend(odd_words());
     edges
 }
+
+pub const HEADER: Maker = Maker {
+    call: "header",
+    share: 4,
+    random: |random| {
+        let length = if random.once_in(2) { random.below(520) } else { random.below(70_000) };
+        let words = format!("{} {length}", random.byte());
+        with_cap(random, "header", &words)
+    },
+    edges: |random| {
+        let lengths = (0..=2).chain(HEADER_EDGES).chain([8_192, 65_534, 65_535, 65_536, 65_537, usize::MAX]);
+        let words = lengths.map(|length| format!("{} {length}", random.byte())).collect::<Vec<_>>();
+        words.iter().flat_map(|words| with_each_edge_cap("header", words)).collect()
+    },
+    short: &[Family { size: 256, words: |ty| format!("{ty} {} {}", 250 + ty % 8, 1 + ty % 5) }],
+};
 
 /// This call has a word of each form, so here each odd word is tried in each place.
 fn odd_words() -> Vec<String> {
