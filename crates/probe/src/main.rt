@@ -1,4 +1,4 @@
-// Makes every public call of the library reachable: requests on standard input, one answer line each.
+// Makes the public calls of the library reachable: requests on standard input, one answer line each. Its stored answers are the Rust's.
 fn main() {
-    protocol::serve();
+    harness::serve();
 }

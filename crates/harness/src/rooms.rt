@@ -1,0 +1,16 @@
+// The buffers: made once, and lent to every request. A room takes the input, the bytes of a request's words, or the answers not yet written.
+use crate::texts::ROOM;
+use crate::texts::Room;
+
+// What a call can be lent.
+const LENT: usize = 131072;
+
+pub(crate) type Lent = [u8; LENT];
+
+pub(crate) fn room() -> Room {
+    [0; ROOM]
+}
+
+pub(crate) fn lent() -> Lent {
+    [0; LENT]
+}
