@@ -1,7 +1,7 @@
 -- `dataset_parts::network_name_value` meets its contract: the name that is found is a part of the input.
 -- Assumes nothing.
 use native.Mathlib.Omega.{arith}
-use native.Mathlib.Nat.{add-sub-cancel-left}
+use native.Mathlib.Nat.{add-sub-cancel, add-sub-cancel-left}
 use Rattle.dataset_parts.proofs.Keeps.{name-part, name-none}
 use borrow.Author.Needs.{needs}
 use Rattle.dataset_parts.proofs.network_name_value.Statement.{statement}
@@ -17,10 +17,10 @@ add-result : tie.Need-add-result
 add-result c = omega (arith, name-part _ _ (c .before .before .before .network-name .ensures) _ _ _ (c .before .start .given .1))
 
 sub-result : tie.Need-sub-result
-sub-result c = search needs
+sub-result c = omega arith
 
 part-result-start : tie.Need-part-result-start
-part-result-start c = search needs
+part-result-start c = omega arith
 
 part-result-end : tie.Need-part-result-end
 part-result-end c = omega (arith, name-part _ _ (c .before .before .before .network-name .ensures) _ _ _ (c .before .start .given .1))
@@ -31,7 +31,7 @@ slice-aggregate-result c = search needs
 returns : tie.Need-returns
 returns c =
     let t = c .before .before in
-    rw add-sub-cancel-left (name-part _ _ (t .before .before .network-name .ensures) _ _ _ (t .start .given .1) .1)
+    simp (add-sub-cancel, add-sub-cancel-left) (name-part _ _ (t .before .before .network-name .ensures) _ _ _ (t .start .given .1) .1)
 
 returns-2 : tie.Need-returns-2
 returns-2 c =
