@@ -1,5 +1,6 @@
 -- `delay::due_second` meets its contract, by what `working_delay` answered.
 -- Assumes nothing.
+use native.Mathlib.Omega.{arith}
 use mathlib.Core.Path.{sym, ap, _∙_}
 use Rattle.delay.specs.Answers.{workingAnswer}
 use Rattle.delay.proofs.Cases.{due-refused, due-late, due-given}
@@ -16,7 +17,7 @@ enum-known-ms c = search needs
 returns : tie.Need-returns
 returns c =
     let t = c .before .before in
-    due-late _ _ _ (sym (ap workingAnswer (t .ms .given .1)) ∙ t .before .before .working-delay .ensures) (c .if1 .taken)
+    due-late _ _ _ (sym (ap workingAnswer (t .ms .given .1)) ∙ t .before .before .working-delay .ensures) (omega arith)
 
 cast-t10 : tie.Need-cast-t10
 cast-t10 c = search needs
@@ -33,7 +34,7 @@ enum-known-r c = search needs
 returns-2 : tie.Need-returns-2
 returns-2 c =
     let t = c .before .before in
-    due-given _ _ _ (sym (ap workingAnswer (t .ms .given .1)) ∙ t .before .before .working-delay .ensures) (c .if1 .left)
+    due-given _ _ _ (sym (ap workingAnswer (t .ms .given .1)) ∙ t .before .before .working-delay .ensures) (omega arith)
 
 returns-3 : tie.Need-returns-3
 returns-3 c =
