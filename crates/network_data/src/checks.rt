@@ -72,49 +72,45 @@ fn joined(had: usize, len: usize, size: usize, most: usize, place: usize) -> Sum
     Sum::Rows(rows)
 }
 
+// One more list of HasRoute rows.
+fn routes_rule(c: Counts, len: usize, place: usize) -> Checked
+    ensures { λ r. ⌜ checkedAnswer r ≡ rule place c 0 len ⌝ }
+{
+    let had = c.has_routes;
+    match joined(had, len, HAS_ROUTE_ENTRY_LEN, MAX_HAS_ROUTES, place) {
+        Sum::Rows(n) => Checked::Counted(Counts {
+            prefixes: c.prefixes,
+            has_routes: n,
+            border_routers: c.border_routers,
+        }),
+        Sum::Refused(r) => Checked::Refused(r),
+    }
+}
+
+// One more list of BorderRouter rows.
+fn borders_rule(c: Counts, len: usize, place: usize) -> Checked
+    ensures { λ r. ⌜ checkedAnswer r ≡ rule place c 2 len ⌝ }
+{
+    let had = c.border_routers;
+    match joined(had, len, BORDER_ROUTER_ENTRY_LEN, MAX_BORDER_ROUTERS, place) {
+        Sum::Rows(n) => Checked::Counted(Counts {
+            prefixes: c.prefixes,
+            has_routes: c.has_routes,
+            border_routers: n,
+        }),
+        Sum::Refused(r) => Checked::Refused(r),
+    }
+}
+
 // The rule of one inner TLV.
 fn inner_rule(c: Counts, ty: u8, len: usize, place: usize) -> Checked
     ensures { λ r. ⌜ checkedAnswer r ≡ rule place c ty len ⌝ }
 {
     if ty == NETWORK_DATA_HAS_ROUTE {
-        match joined(
-            c.has_routes,
-            len,
-            HAS_ROUTE_ENTRY_LEN,
-            MAX_HAS_ROUTES,
-            place,
-        ) {
-            Sum::Rows(n) => {
-                return Checked::Counted(Counts {
-                    prefixes: c.prefixes,
-                    has_routes: n,
-                    border_routers: c.border_routers,
-                });
-            }
-            Sum::Refused(r) => {
-                return Checked::Refused(r);
-            }
-        }
+        return routes_rule(c, len, place);
     }
     if ty == NETWORK_DATA_BORDER_ROUTER {
-        match joined(
-            c.border_routers,
-            len,
-            BORDER_ROUTER_ENTRY_LEN,
-            MAX_BORDER_ROUTERS,
-            place,
-        ) {
-            Sum::Rows(n) => {
-                return Checked::Counted(Counts {
-                    prefixes: c.prefixes,
-                    has_routes: c.has_routes,
-                    border_routers: n,
-                });
-            }
-            Sum::Refused(r) => {
-                return Checked::Refused(r);
-            }
-        }
+        return borders_rule(c, len, place);
     }
     if ty == NETWORK_DATA_6LOWPAN_CONTEXT {
         if len != 2 {
