@@ -26,13 +26,13 @@ returns-3 : tie.Need-returns-3
 unfolding rule
 returns-3 c =
     let h = c .before .before .before in
-    c .refuse .ensures ∙ simp (ne-eqb _ _ (h .before .if1 .left), ne-eqb _ _ (h .if2 .left), eq-eqb _ _ (c .before .before .if3 .taken), ne-eqb _ _ (c .before .if4 .taken))
+    c .refuse .ensures ∙ simp (ne-eqb _ _ (h .before .if1 .left), ne-eqb _ _ (h .if2 .left), eq-eqb _ _ (c .before .before .if3 .taken), ne-eqb _ 2 (c .before .if4 .taken))
 
 returns-4 : tie.Need-returns-4
 unfolding rule
 returns-4 c =
     let h = c .before .before in
-    simp (ne-eqb _ _ (h .before .if1 .left), ne-eqb _ _ (h .if2 .left), eq-eqb _ _ (c .before .if3 .taken), eq-eqb _ _ (c .if4 .left))
+    simp (ne-eqb _ _ (h .before .if1 .left), ne-eqb _ _ (h .if2 .left), eq-eqb _ _ (c .before .if3 .taken), eq-eqb _ 2 (c .if4 .left))
 
 returns-5 : tie.Need-returns-5
 unfolding rule
