@@ -5,7 +5,6 @@ use mathlib.Core.Bool.{false, _&&_, or-false}
 use mathlib.Core.List.{List, [], _∷_, _++_, append-assoc}
 use Prim.Native.Nat.{ℕ, zero, suc, _+_, _≤_, _<_}
 use native.Mathlib.Omega.{arith}
-use native.Mathlib.Numerals.{add-one}
 use lib.Dec.{eqb, ltb}
 use borrow.Author.Tests.{eqb-true, eqb-false, ne-eqb, ltb-true, ltb-false, lt-ltb, le-ltb}
 use Rattle.refusal.specs.Answer.{pick}
@@ -19,10 +18,6 @@ use Rattle.laws.proofs.Parts.{every-append}
 use Rattle.change_folds.proofs.Lasts.{others, touches-append, sets-append, last-set-or-removed, not-set, removed-is, run-is}
 
 -- ---- removals, types ascending
-
-pub removals-step : (n : ℕ) (os : List Op) → removalsBelow (n + 1) os ≡ removalsBelow n os ++ pick (removes os n) (remove n ∷ []) []
-unfolding removalsBelow
-removals-step n os = rw add-one
 
 pub removals-same : (a b : List Op) (n : ℕ) → ((t : ℕ) → t < n → removes a t ≡ removes b t) → removalsBelow n a ≡ removalsBelow n b
 unfolding removalsBelow

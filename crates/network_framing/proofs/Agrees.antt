@@ -2,14 +2,13 @@
 -- Assumes nothing.
 use mathlib.Core.Path.{_≡_, refl, sym, ap, _∙_}
 use mathlib.Core.List.{List, [], _∷_}
-use Prim.Native.Nat.{ℕ, zero, suc, _+_, _-_, _/_, _≤_, _<_}
+use Prim.Native.Nat.{ℕ, suc, _+_, _-_, _/_, _≤_, _<_}
 use native.Mathlib.Omega.{arith}
 use native.Mathlib.Nat.{add-zero}
 use lib.ListN.{length, getD, take, drop}
 use lib.Seq.{getD-drop, getD-take, length-take-le, drop-cons, take-take}
 use lib.Dec.{leb, ltb}
 use borrow.Author.Tests.{le-leb, lt-leb, lt-ltb, le-ltb, leb-true, leb-false, ltb-false}
-use Rattle.refusal.specs.Answer.{Answer, given, absent, refused}
 use Rattle.refusal.proofs.Papers.{Tells, tells, codeOf}
 use Rattle.laws.proofs.Tests.{by-test}
 use Rattle.laws.proofs.Parts.{length-part}

@@ -155,10 +155,6 @@ module _ (s : List ℕ) (at end : ℕ) where
       (λ a. by-test (ltb (length s) end) (too-few a)
       (λ b. all-there a b ∙ walk-by s at end (leb-false _ _ a) (ltb-false _ _ b) (part s at end) refl))
 
-sub-end : (s : List ℕ) (at end : ℕ) → end ≤ at → subPlace s at end ≡ End
-unfolding subPlace
-sub-end s at end h = simp (le-leb _ _ h)
-
 pub walk-end : (s : List ℕ) (at end : ℕ) → end ≤ at → walkIn s at end ≡ done clean
 unfolding walkIn
 walk-end s at end h = simp (le-leb _ _ h)

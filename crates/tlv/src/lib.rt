@@ -63,7 +63,7 @@ pub fn frame_at(s: &[u8], at: usize) -> Frame
     }
     let ty = s[at];
     let short = s[at + 1] as usize;
-    if short == 255 {
+    if short == EXTENDED_TLV_MARKER as usize {
         if n - at < 4 {
             return Frame::Cut;
         }

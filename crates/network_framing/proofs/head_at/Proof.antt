@@ -2,13 +2,11 @@
 -- Assumes nothing.
 use borrow.Author.Tests.{lt-ltb, le-ltb, le-leb, lt-leb}
 use native.Mathlib.Omega.{arith}
-use Prim.Native.Nat.{_+_, _/_}
+use Prim.Native.Nat.{_+_}
 use denote.Ref.{now}
-use lib.ListN.{getD}
-use Rattle.network_framing.specs.Tlvs.{bytesFor}
 use Rattle.network_framing.specs.Place.{headPlace}
 use Rattle.network_framing.proofs.Agrees.{head-is, head-short, head-inner}
-use Rattle.network_framing.specs.declared.Head.the-variants.{Inner, Short}
+use Rattle.network_framing.specs.declared.Head.the-variants.{Short}
 use borrow.Author.Needs.{needs}
 use Rattle.network_framing.proofs.head_at.Statement.{statement}
 use Rattle.network_framing.proofs.head_at.Tie as tie

@@ -2,12 +2,11 @@
 -- Assumes nothing.
 use borrow.Author.Tests.{lt-ltb, le-ltb, le-leb, lt-leb}
 use native.Mathlib.Omega.{arith}
-use Prim.Native.Nat.{_+_, _/_}
+use Prim.Native.Nat.{_+_}
 use denote.Ref.{now}
-use lib.ListN.{getD}
 use Rattle.network_framing.specs.Place.{subPlace}
 use Rattle.network_framing.proofs.Agrees.{sub-is, sub-item, sub-cut}
-use Rattle.network_framing.specs.declared.SubTlv.the-variants.{Item, Cut, End}
+use Rattle.network_framing.specs.declared.SubTlv.the-variants.{Cut, End}
 use borrow.Author.Needs.{needs}
 use Rattle.network_framing.proofs.sub_in.Statement.{statement}
 use Rattle.network_framing.proofs.sub_in.Tie as tie

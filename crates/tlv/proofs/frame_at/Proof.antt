@@ -32,6 +32,9 @@ shared-slice-read-short c = search needs
 cast-short : tie.Need-cast-short
 cast-short c = omega (arith, c .shared-slice-known2 .given (c .before .before .before .before .args .at + 1))
 
+cast-if3 : tie.Need-cast-if3
+cast-if3 c = search needs
+
 sub-if4 : tie.Need-sub-if4
 sub-if4 c = search needs
 
@@ -128,6 +131,7 @@ frame-at-spec =
     add-short
     shared-slice-read-short
     cast-short
+    cast-if3
     sub-if4
     returns-3
     add-long

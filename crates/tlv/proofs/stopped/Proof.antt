@@ -1,9 +1,6 @@
 -- `tlv::stopped` meets its contract, by its two tests.
 -- Assumes nothing.
 use mathlib.Core.Path.{_∙_}
-use native.Mathlib.Omega.{arith}
-use borrow.Author.Tests.{lt-ltb, le-ltb}
-use Rattle.refusal.specs.Sizes.{mostEntries}
 use borrow.Author.Needs.{needs}
 use Rattle.tlv.proofs.stopped.Statement.{statement}
 use Rattle.tlv.proofs.stopped.Tie as tie

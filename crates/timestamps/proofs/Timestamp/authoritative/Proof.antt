@@ -5,7 +5,6 @@ use native.Mathlib.Omega.{arith}
 use lib.Dec.{eqb}
 use borrow.Author.Tests.{eq-eqb, ne-eqb, eqb-true, eqb-false}
 use Rattle.laws.proofs.Tests.{by-test}
-use Rattle.timestamps.specs.Timestamps.{authoritativeOf}
 use Rattle.timestamps.proofs.Timestamp.authoritative.Statement.{statement}
 use Rattle.timestamps.proofs.Timestamp.authoritative.Tie as tie
 
