@@ -1,4 +1,4 @@
--- One possible answer for each public call of `dataset`.
+-- One possible answer for each public call of `dataset`, `dataset_raw` and `dataset_parts`.
 -- Assumes nothing.
 use denote.Ref.{now}
 use mathlib.Core.Path.{_∙_, refl, sym}

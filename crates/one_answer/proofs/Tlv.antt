@@ -1,4 +1,4 @@
--- One possible answer for each public call of `tlv`.
+-- One possible answer for each public call of `tlv` and `tlv_last`.
 -- Assumes nothing.
 use denote.Ref.{now}
 use mathlib.Core.Path.{_∙_, refl, sym}

@@ -1,4 +1,5 @@
-// The calls whose instructions bench/ counts, under C names: each answers what is given, or 2^63 plus the number of the refusal.
+// The calls whose instructions bench/ counts, under C names: each answers what is given, or 2^63 plus the number of the refusal;
+// `speed_last` the length of what is found, and `speed_utf8` yes or no.
 use diag_values::ModeData;
 use diag_values::ReadMode;
 use network_data::Checked;
