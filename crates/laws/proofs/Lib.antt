@@ -5,3 +5,6 @@ pub mod Puts
 pub mod Emits
 pub mod Callers
 pub mod Answers
+pub mod Stands
+pub mod Bits
+pub mod Joined

@@ -33,7 +33,8 @@ faultOf n =
     (pick (eqb n 8) f.NotHex
     (pick (eqb n 9) f.BadOperation
     (pick (eqb n 10) f.ResultTooLarge
-    (pick (eqb n 11) f.NoRoom (pick (eqb n 12) f.TooManyRows (pick (eqb n 13) f.ValueTooLong f.NowTooLate))))))))))))
+    (pick (eqb n 11) f.NoRoom
+    (pick (eqb n 12) f.TooManyRows (pick (eqb n 13) f.ValueTooLong (pick (eqb n 14) f.NowTooLate f.Unwritable)))))))))))))
 
 fault-back : (x : Fault) → faultOf (faultNumber x) ≡ x
 fault-back f.TooLarge = refl
@@ -50,6 +51,7 @@ fault-back f.NoRoom = refl
 fault-back f.TooManyRows = refl
 fault-back f.ValueTooLong = refl
 fault-back f.NowTooLate = refl
+fault-back f.Unwritable = refl
 
 pub fault-tells : Tells faultNumber
 fault-tells = tells faultNumber faultOf fault-back

@@ -4,3 +4,4 @@ pub mod Number
 pub mod Output
 pub mod Every
 pub mod Numbered
+pub mod Each

@@ -21,6 +21,8 @@ faultNumber f.NoRoom = 11
 faultNumber f.TooManyRows = 12
 faultNumber f.ValueTooLong = 13
 faultNumber f.NowTooLate = 14
+-- document 02, One: "15 if a field doesn't fit its bits ..."
+faultNumber f.Unwritable = 15
 
 abbrev pub refusalAnswer : {A : Type 0} → Refusal → Answer A
 refusalAnswer r = refused (faultNumber (r .fault)) (r .place) (r .input)

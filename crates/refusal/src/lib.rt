@@ -20,7 +20,7 @@ fn constants() -> [usize; 3]
     [MAX_BYTES, MAX_DIGITS, MAX_ENTRIES]
 }
 
-// One case for each number of document 01's table, in its order.
+// One case for each number of document 01's table, in its order, then those of document 02.
 pub enum Fault {
     TooLarge,
     Cut,
@@ -36,6 +36,7 @@ pub enum Fault {
     TooManyRows,
     ValueTooLong,
     NowTooLate,
+    Unwritable,
 }
 
 // What is refused, the place in the input that is at fault, and which input that is: 0 the first, 1 the second.
@@ -63,7 +64,7 @@ pub fn refuse(fault: Fault, place: usize) -> Written
 }
 
 impl Fault {
-    // Document 01's number.
+    // Its number in documents 01 and 02.
     pub fn number(self) -> u8
         ensures { λ r. ⌜ r ≡ faultNumber self ⌝ }
     {
@@ -82,6 +83,7 @@ impl Fault {
             Fault::TooManyRows => 12,
             Fault::ValueTooLong => 13,
             Fault::NowTooLate => 14,
+            Fault::Unwritable => 15,
         }
     }
 }

@@ -3,6 +3,7 @@
 --     cells-array      and back
 --     array-parts, parts-array      the same, where only its first k elements are lent
 --     Loan, Lender     what a loan of its first k elements is: the slice, and what its lender has until the lifetime ends.        part-lent, part-back      the loan is made, and the array taken back
+--     Shared, Sharer   the same of a shared loan, of which nothing comes back but the array.        part-shared, shared-back      the loan is made, and the array taken back
 --     array-typed      an array's machine value has the array's MIR type
 --     array-field-is   an array of declared structs as a field of another has the same machine value
 -- Assumes `Given`.
@@ -20,7 +21,7 @@ use base.Logic.{ent, sep, ex, guard}
 use base.Fml.{Lft, GName, Fml, fat, fsep, fdead, flent}
 use prog.Wp.{Heap}
 use ghost.Atoms.{Atoms, sem}
-use types.Kit.{Given, ‵, _⊛_, some, later, use2, use3, split, frame, feqL, feqI, _$_, _∵_, !, qed, move, use1, rewrite, drop, fsplit, fjoin, fpick, fpack, pick, check, show, await, updating, now as at-once, done}
+use types.Kit.{Given, ‵, _⊛_, some, later, keep, use2, use3, split, frame, feqL, feqI, _$_, _∵_, !, qed, move, use1, rewrite, drop, fsplit, fjoin, fpick, fpack, pick, check, show, await, updating, now as at-once, done}
 use types.SemTy.{cells, Arr}
 use types.Share.{arr-parts}
 use denote.RattleType.{RattleType}
@@ -30,8 +31,9 @@ use denote.Memory.{cellRaw, rawAll, mem, shares, partAt, partOf}
 use denote.Array as D
 use denote.Array.{Array, arrayVal, array-tells, each}
 use denote.ArrayMemory.{array-apart, array-whole}
-use denote.Slice.{MutSlice, sliceVal, Room, finally}
-use denote.Lend.{Held, lends-slice, slice-back}
+use denote.Slice.{MutSlice, ShrSlice, sliceVal, Room, finally}
+use types.Tokens.{lent-back}
+use denote.Lend.{Held, lends-slice, slice-back, lends-shr-slice}
 use denote.Index.{row, whole-in, whole-out}
 use denote.Steps.{peeks, facts}
 use denote.Struct.Struct.{Struct}
@@ -67,6 +69,14 @@ module _ (E : Elem) (n : ℕ) where
 
     abbrev pub Lender : Fml
     Lender = fsep (flent α (Held R (length (take k xs)) l 0 γ)) (cells (mem R) (dropᴸ k xs) l (at 0 (mem R .size) (length (take k xs))))
+
+  -- shared: under the name γ
+  module _ (xs : List (E .D)) (l k : ℕ) (α : Lft) where
+    abbrev pub Shared : GName → Fml
+    Shared γ = ShrSlice (named 0) α R .own (record { ptr = (l, 0); name = γ; now = take k xs }) (sliceVal (l, 0) (length (take k xs)) ∷ [])
+
+    abbrev pub Sharer : Fml
+    Sharer = fsep (flent α (arr-parts (shares R) (length (take k xs)) .part fullShare (take k xs) l 0)) (cells (mem R) (dropᴸ k xs) l (at 0 (mem R .size) (length (take k xs))))
 
   module _ {M : Type 1} (𝓤 : URA M) (H : Heap 𝓤) (A : Atoms 𝓤) (W : Given 𝓤 H A) where
     pub array-typed : (xs : List (E .D)) (v : Val) → Is (Array R n) xs (v ∷ []) → Holds (hasTy (tyArray (E .τ) n) v) × WT v
@@ -124,3 +134,20 @@ module _ (E : Elem) (n : ℕ) where
         use3 W (later (‵ (Arr (mem R) (length (take k xs)) .lies ys l 0))) (slice-back 𝓤 H A W R α γ ys (length (take k xs)) l 0) $ await ! tt $
         use2 W (‵ (fat fullShare (tyArray (E .τ) n) l 0 (aval (ys ++ dropᴸ k xs))) ⊛ ‵ (Array R n .own (ys ++ dropᴸ k xs) (aval (ys ++ dropᴸ k xs) ∷ []))) (parts-array xs ys l k e) $ split ! $ move ! (1 ∷ []) $
         facts ! (Array R n) (Is (Array R n)) (shows 𝓤 H A (Array R n)) (ys ++ dropᴸ k xs) (aval (ys ++ dropᴸ k xs) ∷ []) (λ p. at-once ! $ check ! p $ done !)
+
+    pub part-shared : (xs : List (E .D)) (v : Val) (l k : ℕ) (α : Lft) → Room R (length (take k xs))
+        → ent 𝓤 (sep 𝓤 (sem 𝓤 H A (fat fullShare (tyArray (E .τ) n) l 0 v)) (sem 𝓤 H A (Array R n .own xs (v ∷ [])))) (H .⇛ (ex 𝓤 (λ (γ : GName). sep 𝓤 (sem 𝓤 H A (Shared xs l k α γ)) (sem 𝓤 H A (Sharer xs l k α)))))
+    part-shared xs v l k α g =
+        qed W (‵ (fat fullShare (tyArray (E .τ) n) l 0 v) ∷ ‵ (Array R n .own xs (v ∷ [])) ∷ []) ∵ updating ! $
+        use2 W (‵ (cells (mem R) (take k xs) l 0) ⊛ ‵ (cells (mem R) (dropᴸ k xs) l (at 0 (mem R .size) (length (take k xs))))) (array-parts xs v l k) $ split ! $
+        use1 W (‵ (row R fullShare (take k xs) l 0)) (whole-out 𝓤 H A W R (take k xs) l 0) $ feqI ! ℕ (length (take k xs)) (length (take k xs)) refl $ fjoin ! $
+        use1 W (later (some (λ (γ : GName). ‵ (Shared xs l k α γ) ⊛ ‵ (flent α (arr-parts (shares R) (length (take k xs)) .part fullShare (take k xs) l 0))))) (lends-shr-slice 𝓤 H A W R (named 0) α fullShare (take k xs) l 0 g) $ await ! tt $ pick ! (λ γ. split ! $
+        at-once ! $ show ! (λ (γ : GName). sep 𝓤 (sem 𝓤 H A (Shared xs l k α γ)) (sem 𝓤 H A (Sharer xs l k α))) γ $ frame ! $ fjoin ! $ done !)
+
+    pub shared-back : (xs : List (E .D)) (l k : ℕ) (α : Lft) → length xs ≡ n
+        → ent 𝓤 (sep 𝓤 (A .dead α) (sem 𝓤 H A (Sharer xs l k α))) (H .⇛ (sem 𝓤 H A (fat fullShare (tyArray (E .τ) n) l 0 (aval xs))))
+    shared-back xs l k α e =
+        qed W (‵ (fdead α) ∷ ‵ (Sharer xs l k α) ∷ []) ∵ updating ! $ move ! (1 ∷ []) $ fsplit ! $ move ! (2 ∷ 0 ∷ []) $ lent-back ! tt $ fsplit ! $ move ! (1 ∷ []) $
+        use1 W (‵ (cells (mem R) (take k xs) l 0)) (whole-in 𝓤 H A W R (take k xs) l 0) $ move ! (1 ∷ 0 ∷ []) $ fjoin ! $
+        use2 W (‵ (fat fullShare (tyArray (E .τ) n) l 0 (aval (take k xs ++ dropᴸ k xs))) ⊛ ‵ (Array R n .own (take k xs ++ dropᴸ k xs) (aval (take k xs ++ dropᴸ k xs) ∷ []))) (parts-array xs (take k xs) l k e) $ split ! $
+        rewrite ! 0 (λ (ys : List (E .D)). ‵ (fat fullShare (tyArray (E .τ) n) l 0 (aval ys))) (take-append-drop k xs) refl $ at-once ! $ move ! (0 ∷ []) $ keep ! (0 ∷ []) $ done !

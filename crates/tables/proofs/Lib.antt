@@ -3,3 +3,9 @@ pub mod FillBy
 pub mod Lends
 pub mod LendThree
 pub mod Follows
+pub mod Scan
+pub mod Again
+pub mod PutEach
+pub mod Lines
+pub mod PutEachWithOne
+pub mod PutEachWithTwo

@@ -48,6 +48,22 @@ module _ (t n : ℕ) where
   unfolding headed
   headed-is h = simp (le-ltb _ _ h)
 
+  -- the header alone, placed
+  module _ (at : ℕ) (out : List ℕ) where
+    pub header-too-long : mostValue < n → placing at out ≡ placedIf (headed t n) at out
+    unfolding placedIf
+    header-too-long h = rw (← headed-too-long h)
+
+    header-placed : n ≤ mostValue → placedIf (headed t n) at out ≡ placed (header t n) at out
+    unfolding placedIf
+    header-placed h = rw (headed-is h)
+
+    pub header-no-room : n ≤ mostValue → length out < at + length (header t n) → placing at out ≡ placedIf (headed t n) at out
+    header-no-room h k = sym (header-placed h ∙ placed-not (header t n) at out k)
+
+    pub header-room : n ≤ mostValue → at + length (header t n) ≤ length out → placing (at + length (header t n)) (put out at (header t n)) ≡ placedIf (headed t n) at out
+    header-room h k = sym (header-placed h ∙ placed-fits (header t n) at out k)
+
   pub put-short : (out : List ℕ) (at : ℕ) → n ≤ mostShort → set (set out at t) (at + 1) n ≡ put out at (header t n)
   unfolding put
   put-short out at h = rw (header-short h) (simp towards-suc)

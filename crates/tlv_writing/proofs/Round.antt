@@ -107,7 +107,7 @@ frames-back (suc k) at (c ∷ cs) h =
     rw (first-back (c .ty) (c .value) (encodeAll cs))
     (says-more c cs _ _ _ (frames-back k _ cs (omega (arith, length-all c cs, size-bound (length (c .value))))))
 
-length-contents : (es : List Entry) → length (contents es) ≡ length es
+pub length-contents : (es : List Entry) → length (contents es) ≡ length es
 unfolding contents
 length-contents [] = refl
 length-contents (e ∷ es) = ap suc (length-contents es)

@@ -22,7 +22,7 @@ pub fn entry_size(n: usize) -> usize
 }
 
 // The header of an entry whose value has n bytes, from at on; the place after it.
-fn put_header(ty: u8, n: usize, out: &mut [u8], at: usize) -> usize
+fn store_header(ty: u8, n: usize, out: &mut [u8], at: usize) -> usize
     requires { ⌜ (n ≤ mostValue) × (at + length (header ty n) ≤ length (now out)) ⌝ }
     ensures { λ r. ⌜ (r ≡ at + length (header ty n)) × (now (out .exit) ≡ put (now (out .entry)) at (header ty n)) ⌝ }
 {
@@ -47,7 +47,24 @@ pub fn encode_header(ty: u8, len: usize, out: &mut [u8]) -> Written
     if entry_size(len) - len > out.len() {
         return refusal::refuse(Fault::NoRoom, 0);
     }
-    Written::Bytes(put_header(ty, len, out, 0))
+    Written::Bytes(store_header(ty, len, out, 0))
+}
+
+// The header of an entry whose value has len bytes, from at on, and the place after it; or nothing, and at, where it has no room or the value would be
+// over 65,535 bytes.
+pub fn put_header(ty: u8, len: usize, out: &mut [u8], at: usize) -> usize
+    ensures { λ r. ⌜ placing r (now (out .exit)) ≡ placedIf (headed ty len) at (now (out .entry)) ⌝ }
+{
+    if len > tlv::MAX_EXTENDED_TLV_LENGTH {
+        return at;
+    }
+    if at > out.len() {
+        return at;
+    }
+    if entry_size(len) - len > out.len() - at {
+        return at;
+    }
+    store_header(ty, len, out, at)
 }
 
 // An entry into out from at on, and the place after it; or nothing, and at, where it has no room or its value is over 65,535 bytes.
@@ -64,7 +81,7 @@ pub fn put_entry(ty: u8, value: &[u8], out: &mut [u8], at: usize) -> usize
     if entry_size(n) > out.len() - at {
         return at;
     }
-    let start = put_header(ty, n, out, at);
+    let start = store_header(ty, n, out, at);
     copying::put_bytes(value, out, start)
 }
 

@@ -42,8 +42,8 @@ returns-2 c =
     let k = c .before .before in
     rw (c .refuse2 .ensures) (emit-no-room _ _ _ (headed-is _ _ (k .before .if1 .left)) (omega (arith, size k)))
 
-put-header-requires : tie.Need-put-header-requires
-put-header-requires c κs =
+store-header-requires : tie.Need-store-header-requires
+store-header-requires c κs =
     let k = c .before .before in
     (k .before .if1 .left, omega (arith, size k))
 
@@ -54,7 +54,7 @@ returns-3 : tie.Need-returns-3
 returns-3 c =
     let h = c .before .before in
     let k = h .before .before .before in
-    let told = h .put-header .ensures in
+    let told = h .store-header .ensures in
     emit-done _ _ _ (headed-is _ _ (k .before .if1 .left)) _ _ (omega (arith, told .0)) (told .1) (omega (arith, size k))
 
 pub encode-header-spec : {M : Type 1} → statement M
@@ -67,6 +67,6 @@ encode-header-spec =
     sub-if2
     refuse-requires-2
     returns-2
-    put-header-requires
+    store-header-requires
     same-length
     returns-3)

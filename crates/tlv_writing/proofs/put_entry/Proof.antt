@@ -25,8 +25,8 @@ returns-3 c =
     let long = c .before .before .before .if1 .left in
     no-room-placed _ _ _ _ long (omega (arith, c .before .entry-size .ensures ∙ entry-size _ long))
 
-put-header-requires : tie.Need-put-header-requires
-put-header-requires c κs =
+store-header-requires : tie.Need-store-header-requires
+store-header-requires c κs =
     let z = c .before .before in
     let long = z .before .before .if1 .left in
     let a = z .before .before .before .before .before .args in
@@ -45,7 +45,7 @@ returns-4 c =
     let z = h .before .before .before in
     let e = z .before in
     let long = e .before .if1 .left in
-    b .put-bytes .ensures ∙ value-placed _ _ _ _ _ _ (h .put-header .ensures .1) (h .put-header .ensures .0) long (omega (arith, z .entry-size .ensures ∙ entry-size _ long))
+    b .put-bytes .ensures ∙ value-placed _ _ _ _ _ _ (h .store-header .ensures .1) (h .store-header .ensures .0) long (omega (arith, z .entry-size .ensures ∙ entry-size _ long))
 
 pub put-entry-spec : {M : Type 1} → statement M
 put-entry-spec =
@@ -56,7 +56,7 @@ put-entry-spec =
     entry-size-requires
     sub-if3
     returns-3
-    put-header-requires
+    store-header-requires
     put-bytes-requires
     same-length
     returns-4)
