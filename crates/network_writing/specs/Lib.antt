@@ -1,0 +1,3 @@
+pub mod Encode
+pub mod Fits
+pub mod Tables

@@ -1,0 +1,10 @@
+pub mod Last
+pub mod Round
+pub mod Examples
+pub mod Form
+pub mod Pairs
+pub mod Weights
+pub mod Kept
+pub mod Again
+pub mod Told
+pub mod Back

@@ -1,0 +1,10 @@
+pub mod Values
+pub mod Typed
+pub mod Fits
+pub mod Reading
+pub mod Form
+pub mod Pairs
+pub mod Again
+pub mod Lent
+pub mod Written
+pub mod Machine

@@ -1,0 +1,10 @@
+pub mod Sits
+pub mod Same
+pub mod Read
+pub mod Agrees
+pub mod Again
+pub mod Settled
+pub mod Answered
+pub mod Back
+pub mod Calls
+pub mod Examples
