@@ -35,3 +35,4 @@ pub mod DiagBridge
 pub mod PairRule
 pub mod Pairing
 pub mod Listing
+pub mod DiagWriting

@@ -1,0 +1,27 @@
+-- `plan::part_size` meets its contract.
+-- Assumes nothing.
+use borrow.Author.Needs.{needs}
+use Rattle.diag_writing.proofs.Tested.{entry-bound}
+use Rattle.diag_writing.specs.Plans.{partSize}
+use Rattle.diag_writing.proofs.plan.part_size.Statement.{statement}
+use Rattle.diag_writing.proofs.plan.part_size.Tie as tie
+
+enum-known-x : tie.Need-enum-known-x
+enum-known-x c = search needs
+
+entry-size-requires : tie.Need-entry-size-requires
+entry-size-requires c κs = search needs
+
+enum-told : tie.Need-enum-told
+enum-told c = search needs
+
+returns : tie.Need-returns
+unfolding partSize
+returns c = (rw (c .before .before .x .given .1) (c .entry-size .ensures), entry-bound _ _ (c .entry-size .ensures))
+
+returns-2 : tie.Need-returns-2
+unfolding partSize
+returns-2 c = (rw (c .enum-told .given .1), search needs)
+
+pub part-size-spec : {M : Type 1} → statement M
+part-size-spec = tie.close (tie.spec enum-known-x entry-size-requires enum-told returns returns-2)

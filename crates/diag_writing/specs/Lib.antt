@@ -1,0 +1,4 @@
+pub mod Pieces
+pub mod Short
+pub mod Checks
+pub mod Plans

@@ -1,0 +1,4 @@
+pub mod PrefixLine
+pub mod PlanLine
+pub mod WriteLine
+pub mod LoanLine
