@@ -14,6 +14,7 @@ use crate::requests::read;
 use crate::rooms::Lent;
 use crate::texts::Room;
 use crate::value_texts;
+use crate::write_texts;
 
 // A longer line is no request.
 pub(crate) const LONGEST_LINE: usize = 600000;
@@ -64,5 +65,9 @@ pub(crate) fn put_call(
     if end != at {
         return end;
     }
-    edit_texts::answer(arena, v, out, text, at)
+    let edit = edit_texts::answer(arena, v, out, text, at);
+    if edit != at {
+        return edit;
+    }
+    write_texts::answer(line, arena, v, out, text, at)
 }

@@ -3,7 +3,7 @@ mod answers;
 mod edits;
 mod entries;
 mod hexes;
-mod lent;
+pub(crate) mod lent;
 mod listings;
 mod lists;
 

@@ -14,6 +14,7 @@ mod requests;
 mod rooms;
 mod texts;
 mod value_texts;
+mod write_texts;
 
 // Answers each line of the standard input, of which there may be any number, until its end. A line has up to 600,000 characters; a longer
 // one is answered once, as one bad request. Answers are written when there are many of them, and before more input is waited for.

@@ -12,7 +12,7 @@ ghost use Prim.Native.Nat.{_≤_};
 ghost use Rattle.harness.specs.Places.{lesser, bytesBefore};
 
 // A request has at most so many words, its name among them, and a name at most so long: the bytes come after what both can take.
-const MOST_VALUES: usize = 24;
+pub(crate) const MOST_VALUES: usize = 24;
 
 const LONGEST_NAME: usize = 32;
 
@@ -23,13 +23,13 @@ const WORD: u8 = 1;
 
 const HEX: u8 = 2;
 
-const NUMBER: u8 = 4;
+pub(crate) const NUMBER: u8 = 4;
 
-const TYPE: u8 = 8;
+pub(crate) const TYPE: u8 = 8;
 
-const SHORT: u8 = 16;
+pub(crate) const SHORT: u8 = 16;
 
-const BIT: u8 = 32;
+pub(crate) const BIT: u8 = 32;
 
 const VERSION: u8 = 64;
 
@@ -40,6 +40,12 @@ struct Value {
     start: usize,
     end: usize,
     number: u64,
+}
+
+// A part of a line, from a place up to another.
+pub(crate) struct Span {
+    pub(crate) start: usize,
+    pub(crate) end: usize,
 }
 
 // The values of the words by their number, the name's being 0, and the last word's number: for a call that is lent an output, its size.
@@ -82,7 +88,7 @@ fn digit(c: u8) -> u8 {
 
 // Puts the bytes that a word spells into the arena from start on. The place after them, which is start where it spells none. A digit that is
 // none has a bit that no other has, so one test at the end finds it.
-fn put_bytes(word: &[u8], arena: &mut Room, start: usize) -> usize {
+pub(crate) fn put_bytes(word: &[u8], arena: &mut Room, start: usize) -> usize {
     let n = word.len() / 2;
     let mut seen = 0;
     let mut end = start;
@@ -104,12 +110,12 @@ fn put_bytes(word: &[u8], arena: &mut Room, start: usize) -> usize {
 }
 
 // The number that a word spells, to 2^64 - 1, and its kind: 0 if it spells none.
-struct Number {
-    kind: u8,
-    value: u64,
+pub(crate) struct Number {
+    pub(crate) kind: u8,
+    pub(crate) value: u64,
 }
 
-fn number_of(word: &[u8]) -> Number {
+pub(crate) fn number_of(word: &[u8]) -> Number {
     let none = Number { kind: 0, value: 0 };
     if word.len() == 0 {
         return none;
@@ -185,7 +191,7 @@ fn short_version(v: u8, digit: u8) -> Number {
     Number { kind: 0, value: 0 }
 }
 
-fn hex_kind(word: &[u8], start: usize, end: usize) -> u8 {
+pub(crate) fn hex_kind(word: &[u8], start: usize, end: usize) -> u8 {
     if end > start {
         return HEX;
     }
@@ -268,6 +274,26 @@ impl Values {
         part_of(request, 0, 0)
     }
 
+    // Where a word stands in its line, from the one after the first on; an end of 0 past the last.
+    pub(crate) fn span(self, k: usize) -> Span {
+        let none = Span { start: 0, end: 0 };
+        if k == 0 {
+            return none;
+        }
+        if k >= MOST_VALUES {
+            return none;
+        }
+        let before = self.values[k - 1];
+        let v = self.values[k];
+        if before.stop < v.stop {
+            return Span {
+                start: before.stop + 1,
+                end: v.stop,
+            };
+        }
+        none
+    }
+
     pub(crate) fn number(self, k: usize) -> u64 {
         if k < MOST_VALUES {
             let v = self.values[k];
@@ -302,7 +328,7 @@ fn agrees(c: u8, with: u8, letters: bool) -> bool {
 }
 
 // Whether a request is for the call of that text: its name, a blank and a letter for each further word, b for bytes, n for a number, t for
-// one to 255 (a type, a page), s for one to 65,535, i for 0 or 1, v for a version.
+// one to 255 (a type, a page), s for one to 65,535, i for 0 or 1, v for a version; and at its end * for any further words.
 pub(crate) fn asks(request: &Room, call: &[u8]) -> bool {
     let n = call.len();
     if n >= ROOM {
@@ -312,6 +338,9 @@ pub(crate) fn asks(request: &Room, call: &[u8]) -> bool {
     let mut i = 0;
     while i < n {
         let with = call[i];
+        if with == b'*' {
+            return true;
+        }
         if !agrees(request[i], with, letters) {
             return false;
         }
