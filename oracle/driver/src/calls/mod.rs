@@ -20,6 +20,7 @@ mod write;
 use diagnostics::Tables;
 pub use listing::refusal_printed;
 pub use parts::VERSIONS;
+pub use records::record_words;
 
 pub struct Call {
     pub name: &'static str,

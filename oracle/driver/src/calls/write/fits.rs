@@ -79,7 +79,7 @@ fn prefix_fits(prefix: &Prefix) -> bool {
 }
 
 fn are_addresses(bytes: &[u8]) -> bool {
-    bytes.len() % ADDRESS == 0
+    bytes.len().is_multiple_of(ADDRESS)
 }
 
 fn child_fits(row: &ChildTableEntry) -> bool {
