@@ -13,14 +13,17 @@ struct Band {
 }
 
 /// Lines that a size asks for, those about 255 bytes or 128 entries, and all others.
-const LONG: Band = Band { over: 2_000, most_characters: 1_550_000 };
-const MIDDLING: Band = Band { over: 300, most_characters: 350_000 };
+const LONG: Band = Band { over: 2_000, most_characters: 1_690_000 };
+const MIDDLING: Band = Band { over: 300, most_characters: 270_000 };
 const SHORT: Band = Band { over: 0, most_characters: 250_000 };
 
 const MOST_LONG_LINES: usize = 100;
 
 /// Refusals of a value, which stand at its entry.
 const OF_VALUES: &[u32] = &[4, 5, 12];
+
+/// The refusal of a field that cannot be written. It does not say which, but in most requests of few fields it is the last.
+const NO_FIT: u32 = 15;
 
 /// So many cases are looked through for each line of the sample, and no fewer than `LEAST_CASES`.
 const CASES_A_LINE: usize = 20;
@@ -67,12 +70,16 @@ fn label(call: &str, request: &str, answer: &Answer) -> String {
     match answer {
         Ok(Found::Value(words)) => match calls::refusal_printed(words) {
             Some(number) if call == "prog" => refused(number, 0),
+            _ if call == "write" => format!("ok {}", last_type(request)),
             _ => format!("ok{}", form_of(call, words)),
         },
         Ok(Found::Absent) => "absent".to_string(),
         Err(refusal) if call == "diag" && OF_VALUES.contains(&refusal.number) => {
             let payload = request.split(' ').nth(1).unwrap_or_default();
             format!("{} type {}", refused(refusal.number, 0), &payload[2 * refusal.place..][..2])
+        }
+        Err(refusal) if call == "write" && refusal.number == NO_FIT => {
+            format!("{} type {}", refused(refusal.number, 0), last_type(request))
         }
         Err(refusal) => refused(refusal.number, refusal.input),
     }
@@ -82,11 +89,17 @@ fn label(call: &str, request: &str, answer: &Answer) -> String {
 fn form_of(call: &str, words: &str) -> String {
     let last = words.rsplit(' ').next().unwrap_or_default();
     match call {
-        "diag" => format!(" {}", last.split('=').next().unwrap_or_default()),
+        "diag" => format!(" {}", last_type(words)),
         "pair" => format!(" {}", last.trim_end_matches(|c: char| c.is_ascii_digit())),
         "nd" => last.split('|').map(|rows| if rows.ends_with('-') { " -" } else { " +" }).collect(),
         _ => String::new(),
     }
+}
+
+/// Of the fields of a record.
+fn last_type(words: &str) -> &str {
+    let last = words.rsplit(' ').next().unwrap_or_default();
+    last.split('=').next().unwrap_or_default()
 }
 
 fn refused(number: u32, input: u32) -> String {

@@ -43,7 +43,7 @@ impl<'a> Words<'a> {
 }
 
 /// Bytes as a word has them: lower-case hex, `-` for none.
-fn bytes_of(word: &[u8]) -> Option<Vec<u8>> {
+pub fn bytes_of(word: &[u8]) -> Option<Vec<u8>> {
     if word == b"-" {
         return Some(Vec::new());
     }
@@ -55,7 +55,7 @@ fn bytes_of(word: &[u8]) -> Option<Vec<u8>> {
 }
 
 /// A number as a word has it: one or more decimal digits, to 2^64 - 1; leading zeros do no harm.
-fn number_of(word: &[u8]) -> Option<u64> {
+pub fn number_of(word: &[u8]) -> Option<u64> {
     if word.is_empty() {
         return None;
     }

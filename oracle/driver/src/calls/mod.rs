@@ -15,10 +15,12 @@ mod pairing;
 mod parts;
 mod queries;
 mod records;
+mod write;
 
 use diagnostics::Tables;
 pub use listing::refusal_printed;
 pub use parts::VERSIONS;
+pub use records::record_words;
 
 pub struct Call {
     pub name: &'static str,
@@ -97,6 +99,7 @@ pub const ALL: &[Call] = &[
     Call { name: "diag", answer: |w| Some(diagnostics::diag(&w.bytes()?, &tables(w)?)) },
     Call { name: "timeout", answer: |w| Some(diagnostics::timeout(w.number()?)) },
     Call { name: "pair", answer: |w| Some(pairing::pair(&w.bytes()?, w.number()?)) },
+    Call { name: "write", answer: write::write },
     Call { name: "wdelay", answer: |w| Some(delay::wdelay(&w.bytes()?)) },
     Call { name: "due", answer: |w| Some(delay::due(&w.bytes()?, w.number()?)) },
     Call { name: "flat", answer: |w| Some(listing::flat(&w.bytes()?, w.number()?)) },
@@ -104,8 +107,9 @@ pub const ALL: &[Call] = &[
     Call { name: "prog", answer: |w| Some(listing::prog(&w.bytes()?)) },
 ];
 
-/// Calls that the Rust does not have: what they answer is document 01's, over what the Rust reads.
-pub const NOT_IN_THE_RUST: &[&str] = &["ops", "fold", "fold2", "pair", "wdelay", "due", "flat", "hexflat", "prog"];
+/// Calls that the Rust does not have: what they answer is document 01's or 02's, over what the Rust reads.
+pub const NOT_IN_THE_RUST: &[&str] =
+    &["ops", "fold", "fold2", "pair", "write", "wdelay", "due", "flat", "hexflat", "prog"];
 
 fn tables(words: &mut Words) -> Option<Tables> {
     Some(Tables { prefixes: words.number()?, has_routes: words.number()?, border_routers: words.number()? })

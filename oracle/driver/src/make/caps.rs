@@ -8,8 +8,19 @@ const MUCH: u64 = 100_000;
 
 /// The words, and after them a random cap.
 pub fn with_cap(random: &mut Random, call: &str, words: &str) -> String {
-    let need = need_of(call, words).unwrap_or_else(|| random.below(40) as u64);
-    let cap = match random.below(16) {
+    let cap = random_cap(random, need_of(call, words));
+    format!("{words} {cap}")
+}
+
+/// The fields of a record, and before them a random cap.
+pub fn with_cap_before(random: &mut Random, fields: &str) -> String {
+    let cap = random_cap(random, need_of_fields(fields));
+    format!("{cap} {fields}")
+}
+
+fn random_cap(random: &mut Random, need: Option<u64>) -> u64 {
+    let need = need.unwrap_or_else(|| random.below(40) as u64);
+    match random.below(16) {
         0..=4 => need.saturating_sub(1),
         5..=8 => need,
         9..=10 => need + 1,
@@ -19,28 +30,42 @@ pub fn with_cap(random: &mut Random, call: &str, words: &str) -> String {
         14 => MUCH,
         _ if random.once_in(4) => u64::MAX,
         _ => 9_999,
-    };
-    format!("{words} {cap}")
+    }
 }
 
 /// The words with each cap at the edge.
 pub fn with_each_edge_cap(call: &str, words: &str) -> Vec<String> {
-    let caps = edge_caps(call, words);
+    let caps = edge_caps(need_of(call, words));
     caps.iter().map(|cap| format!("{words} {cap}")).collect()
+}
+
+/// The fields of a record with each cap at the edge.
+pub fn with_each_edge_cap_before(fields: &str) -> Vec<String> {
+    let caps = edge_caps(need_of_fields(fields));
+    caps.iter().map(|cap| format!("{cap} {fields}")).collect()
 }
 
 /// Each of the words with one of its caps at the edge, in turn.
 pub fn with_edge_caps_in_turn(call: &str, all_words: &[String]) -> Vec<String> {
     let with_one_cap = |(turn, words): (usize, &String)| {
-        let caps = edge_caps(call, words);
+        let caps = edge_caps(need_of(call, words));
         format!("{words} {}", caps[turn % caps.len()])
     };
     all_words.iter().enumerate().map(with_one_cap).collect()
 }
 
+/// The fields of each record with one of its caps at the edge, in turn.
+pub fn with_edge_caps_before_in_turn(records: &[String]) -> Vec<String> {
+    let with_one_cap = |(turn, fields): (usize, &String)| {
+        let caps = edge_caps(need_of_fields(fields));
+        format!("{} {fields}", caps[turn % caps.len()])
+    };
+    records.iter().enumerate().map(with_one_cap).collect()
+}
+
 /// Just enough, one too few, one too many; where the call refuses whatever is lent, much and nothing.
-fn edge_caps(call: &str, words: &str) -> Vec<u64> {
-    match need_of(call, words) {
+fn edge_caps(need: Option<u64>) -> Vec<u64> {
+    match need {
         Some(need) => vec![need, need.saturating_sub(1), need + 1],
         None => vec![MUCH, 0],
     }
@@ -49,11 +74,16 @@ fn edge_caps(call: &str, words: &str) -> Vec<u64> {
 /// The length of what the call would write, or how many answers it gives, unless it refuses for another reason.
 fn need_of(call: &str, words: &str) -> Option<u64> {
     let answer = answer_to(format!("{call} {words} {}", u64::MAX))?;
-    match answer.as_str() {
-        _ if call == "pair" => answer.split(' ').next()?.parse().ok(),
-        "-" => Some(0),
-        _ => Some(answer.len() as u64 / 2),
-    }
+    if call == "pair" { answer.split(' ').next()?.parse().ok() } else { Some(bytes_in(&answer)) }
+}
+
+/// The length of the payload that is written of these fields, unless they are refused for another reason.
+pub fn need_of_fields(fields: &str) -> Option<u64> {
+    Some(bytes_in(&answer_to(format!("write {} {fields}", u64::MAX))?))
+}
+
+fn bytes_in(word: &str) -> u64 {
+    if word == "-" { 0 } else { word.len() as u64 / 2 }
 }
 
 fn answer_to(request: String) -> Option<String> {

@@ -17,6 +17,8 @@ mod delay;
 mod diag_values;
 mod diagnostics;
 mod edits;
+mod field_faults;
+mod fields;
 mod framing;
 mod listing;
 mod lists;
@@ -30,6 +32,9 @@ mod queries;
 mod short;
 mod texts;
 mod typed;
+mod write;
+mod write_edges;
+mod write_short;
 
 use short::{Deck, Family};
 
@@ -116,6 +121,7 @@ const MAKERS: &[Maker] = &[
     diagnostics::DIAG,
     diagnostics::TIMEOUT,
     pairing::PAIR,
+    write::WRITE,
     delay::WDELAY,
     delay::DUE,
     listing::FLAT,

@@ -103,7 +103,7 @@ fn inner_item(random: &mut Random) -> Vec<u8> {
 }
 
 /// About 64 prefixes, of which most are bare.
-fn many_prefixes(random: &mut Random) -> Vec<u8> {
+pub fn many_prefixes(random: &mut Random) -> Vec<u8> {
     let count = random.between(62, 67);
     let one = |_| if random.once_in(10) { prefix(random, &[]) } else { bare_prefix(&[]) };
     (0..count).flat_map(one).collect()
