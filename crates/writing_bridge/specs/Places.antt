@@ -12,12 +12,13 @@ use Rattle.record_writing.specs.Lent.{Lent, lent}
 use Rattle.writing_bridge.specs.declared.Rows.{Rows}
 use Rattle.writing_bridge.specs.declared.Lengths.{Lengths}
 
--- "rows of 3" in a value of at most 65,535 bytes
+-- one more than the "rows of 3" in 8,192 bytes
 abbrev pub childPlaces : ℕ
-childPlaces = 21845
+childPlaces = 2731
 
+-- one more than the entries of a payload
 abbrev pub listPlaces : ℕ
-listPlaces = 1024
+listPlaces = 129
 
 -- n, or the most that there are
 abbrev pub atMost : (n most : ℕ) → ℕ

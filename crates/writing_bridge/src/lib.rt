@@ -19,10 +19,10 @@ ghost use Rattle.record_writing.specs.Lent.{lent};
 ghost use Rattle.record_writing.specs.Written.{written};
 ghost use Rattle.writing_bridge.specs.Places.{childPlaces, listPlaces, atMost, lentBy};
 
-// The rows of a child table, which are as many as one value can have, and the address lists.
-pub const CHILD_PLACES: usize = 21845;
+// The rows of a child table and the address lists: one more of each than a payload can have.
+pub const CHILD_PLACES: usize = 2731;
 
-pub const LIST_PLACES: usize = 1024;
+pub const LIST_PLACES: usize = 129;
 
 // The public constants, held to their numbers.
 fn constants() -> [usize; 2]

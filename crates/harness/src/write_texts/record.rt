@@ -1,5 +1,4 @@
 // The record of a `write` line: its fields as the words spell them, and how many rows its tables have.
-use crate::calls::LONGEST_LINE;
 use crate::requests::Span;
 use crate::requests::least;
 use crate::requests::number_of;
@@ -29,7 +28,11 @@ use diag_values::ModeData;
 use diag_values::OptU8;
 use diag_values::OptU16;
 use network_data::Counts;
+use writing_bridge::CHILD_PLACES;
 use writing_bridge::LIST_PLACES;
+
+// A value of 65,535 bytes has so many rows of three.
+const MOST_ROWS: usize = 21845;
 
 // Here and below: a part that ends at 0 is a field that is not there.
 fn opt_u8(line: &[u8], s: Span) -> OptU8 {
@@ -185,14 +188,21 @@ fn opt_network_data(line: &[u8], s: Span) -> OptNetworkData {
     })
 }
 
-// Three bytes a row. A line has fewer characters than the most rows that are counted here.
+// Three bytes a row, of as many rows as can be lent, or of all where no value has so many.
+fn table_length(rows: usize) -> usize {
+    if rows > MOST_ROWS {
+        return 65536;
+    }
+    3 * least(rows, CHILD_PLACES)
+}
+
 fn opt_child_table(line: &[u8], s: Span) -> OptPart {
     if s.end == 0 {
         return OptPart::None;
     }
     OptPart::Some {
         start: 0,
-        len: 3 * least(count_rows(line, s), LONGEST_LINE),
+        len: table_length(count_rows(line, s)),
     }
 }
 
@@ -202,40 +212,23 @@ fn count_lists(line: &[u8], s: Span) -> usize {
 }
 
 pub(crate) fn record_of(line: &[u8], f: Fields) -> NetDiagData {
-    let ext_mac_addr = opt_part(f.text(diag_rules::EXT_MAC_ADDRESS));
-    let mac_addr = opt_u16(line, f.text(diag_rules::MAC_ADDRESS));
-    let mode = opt_mode(line, f.text(diag_rules::MODE));
-    let timeout = opt_u32(line, f.text(diag_rules::TIMEOUT));
-    let connectivity = opt_connectivity(line, f.text(diag_rules::CONNECTIVITY));
-    let route64 = opt_part(f.text(diag_rules::ROUTE64));
-    let leader_data = opt_leader_data(line, f.text(diag_rules::LEADER_DATA));
-    let network_data = opt_network_data(line, f.text(diag_rules::NETWORK_DATA));
-    let addresses = opt_part(f.text(diag_rules::IPV6_ADDRESSES));
-    let mac_counters = opt_mac_counters(line, f.text(diag_rules::MAC_COUNTERS));
-    let battery_level = opt_u8(line, f.text(diag_rules::BATTERY_LEVEL));
-    let supply_voltage = opt_u16(line, f.text(diag_rules::SUPPLY_VOLTAGE));
-    let child_table = opt_child_table(line, f.text(diag_rules::CHILD_TABLE));
-    let channel_pages = opt_part(f.text(diag_rules::CHANNEL_PAGES));
-    let type_list = opt_part(f.text(diag_rules::TYPE_LIST));
-    let eui64 = opt_part(f.text(diag_rules::EUI64));
-    let child_ipv6_addresses = count_lists(line, f.text(diag_rules::CHILD_IPV6_ADDRESSES));
     NetDiagData {
-        ext_mac_addr,
-        mac_addr,
-        mode,
-        timeout,
-        connectivity,
-        route64,
-        leader_data,
-        network_data,
-        addresses,
-        mac_counters,
-        battery_level,
-        supply_voltage,
-        child_table,
-        channel_pages,
-        type_list,
-        eui64,
-        child_ipv6_addresses,
+        ext_mac_addr: opt_part(f.text(diag_rules::EXT_MAC_ADDRESS)),
+        mac_addr: opt_u16(line, f.text(diag_rules::MAC_ADDRESS)),
+        mode: opt_mode(line, f.text(diag_rules::MODE)),
+        timeout: opt_u32(line, f.text(diag_rules::TIMEOUT)),
+        connectivity: opt_connectivity(line, f.text(diag_rules::CONNECTIVITY)),
+        route64: opt_part(f.text(diag_rules::ROUTE64)),
+        leader_data: opt_leader_data(line, f.text(diag_rules::LEADER_DATA)),
+        network_data: opt_network_data(line, f.text(diag_rules::NETWORK_DATA)),
+        addresses: opt_part(f.text(diag_rules::IPV6_ADDRESSES)),
+        mac_counters: opt_mac_counters(line, f.text(diag_rules::MAC_COUNTERS)),
+        battery_level: opt_u8(line, f.text(diag_rules::BATTERY_LEVEL)),
+        supply_voltage: opt_u16(line, f.text(diag_rules::SUPPLY_VOLTAGE)),
+        child_table: opt_child_table(line, f.text(diag_rules::CHILD_TABLE)),
+        channel_pages: opt_part(f.text(diag_rules::CHANNEL_PAGES)),
+        type_list: opt_part(f.text(diag_rules::TYPE_LIST)),
+        eui64: opt_part(f.text(diag_rules::EUI64)),
+        child_ipv6_addresses: count_lists(line, f.text(diag_rules::CHILD_IPV6_ADDRESSES)),
     }
 }

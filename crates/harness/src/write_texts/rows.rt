@@ -61,23 +61,22 @@ fn no_list() -> ChildIpv6AddrInfo {
     }
 }
 
-fn children_of(line: &[u8], s: Span) -> [ChildTableEntry; CHILD_PLACES] {
-    let none = no_child();
-    let mut table = [none; CHILD_PLACES];
-    let n = least(count_rows(line, s), CHILD_PLACES);
-    let mut at = s.start;
-    let mut k = 0;
-    while k < n {
-        let row = first_of(line, at, s.end, b'/');
-        table[k] = child_of(line, row);
-        at = after(row, s.end);
-        k += 1;
+// How early a row is refused: one that does not fit its bits before any other.
+fn child_weight(x: ChildTableEntry) -> u8 {
+    if x.timeout_exponent > 31 {
+        return 1;
     }
-    table
+    if x.incoming_link_quality > 3 {
+        return 1;
+    }
+    if x.child_id > 511 {
+        return 1;
+    }
+    0
 }
 
 // How early a list is refused: one that no entry holds before one that contradicts itself, and that before any other.
-fn weight(x: ChildIpv6AddrInfo) -> u8 {
+fn list_weight(x: ChildIpv6AddrInfo) -> u8 {
     if x.len > 65533 {
         return 2;
     }
@@ -90,7 +89,27 @@ fn weight(x: ChildIpv6AddrInfo) -> u8 {
     0
 }
 
-// Where more lists are asked for than there are places, none of them can be written: the last place takes the one that is refused first.
+// Here and below: where a line has more rows than there are places, none of them can be written, and the last place takes the one that is refused first.
+fn children_of(line: &[u8], s: Span) -> [ChildTableEntry; CHILD_PLACES] {
+    let none = no_child();
+    let mut table = [none; CHILD_PLACES];
+    let n = count_rows(line, s);
+    let mut at = s.start;
+    let mut k = 0;
+    while k < n {
+        let row = first_of(line, at, s.end, b'/');
+        let child = child_of(line, row);
+        let place = least(k, CHILD_PLACES - 1);
+        let there = table[place];
+        if (k < CHILD_PLACES) | (child_weight(child) > child_weight(there)) {
+            table[place] = child;
+        }
+        at = after(row, s.end);
+        k += 1;
+    }
+    table
+}
+
 fn lists_of(line: &[u8], s: Span) -> [ChildIpv6AddrInfo; LIST_PLACES] {
     let none = no_list();
     let mut table = [none; LIST_PLACES];
@@ -102,7 +121,7 @@ fn lists_of(line: &[u8], s: Span) -> [ChildIpv6AddrInfo; LIST_PLACES] {
         let list = list_of(line, row);
         let place = least(k, LIST_PLACES - 1);
         let there = table[place];
-        if (k < LIST_PLACES) | (weight(list) > weight(there)) {
+        if (k < LIST_PLACES) | (list_weight(list) > list_weight(there)) {
             table[place] = list;
         }
         at = after(row, s.end);

@@ -16,9 +16,6 @@ no-child-requires c κs = search needs
 count-rows-requires : tie.Need-count-rows-requires Inv-loop μ-loop
 count-rows-requires c κs = search needs
 
-least-requires : tie.Need-least-requires Inv-loop μ-loop
-least-requires c κs = search needs
-
 loop-holds : tie.Need-loop-holds Inv-loop μ-loop
 loop-holds c = search needs
 
@@ -27,6 +24,24 @@ first-of-requires c κs = search needs
 
 child-of-requires : tie.Need-child-of-requires Inv-loop μ-loop
 child-of-requires c κs = search needs
+
+sub-least : tie.Need-sub-least Inv-loop μ-loop
+sub-least c = search needs
+
+least-requires : tie.Need-least-requires Inv-loop μ-loop
+least-requires c κs = search needs
+
+mul-there : tie.Need-mul-there Inv-loop μ-loop
+mul-there c = search needs
+
+array-copy-out-there : tie.Need-array-copy-out-there Inv-loop μ-loop
+array-copy-out-there c = search needs
+
+child-weight-requires : tie.Need-child-weight-requires Inv-loop μ-loop
+child-weight-requires c κs = search needs
+
+child-weight-requires-2 : tie.Need-child-weight-requires-2 Inv-loop μ-loop
+child-weight-requires-2 c κs = search needs
 
 mul-table : tie.Need-mul-table Inv-loop μ-loop
 mul-table c = search needs
@@ -57,10 +72,15 @@ children-of-spec =
     μ-loop
     no-child-requires
     count-rows-requires
-    least-requires
     loop-holds
     first-of-requires
     child-of-requires
+    sub-least
+    least-requires
+    mul-there
+    array-copy-out-there
+    child-weight-requires
+    child-weight-requires-2
     mul-table
     array-set-from-table
     after-requires

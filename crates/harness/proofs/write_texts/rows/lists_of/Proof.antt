@@ -37,11 +37,11 @@ mul-there c = search needs
 array-copy-out-there : tie.Need-array-copy-out-there Inv-loop μ-loop
 array-copy-out-there c = search needs
 
-weight-requires : tie.Need-weight-requires Inv-loop μ-loop
-weight-requires c κs = search needs
+list-weight-requires : tie.Need-list-weight-requires Inv-loop μ-loop
+list-weight-requires c κs = search needs
 
-weight-requires-2 : tie.Need-weight-requires-2 Inv-loop μ-loop
-weight-requires-2 c κs = search needs
+list-weight-requires-2 : tie.Need-list-weight-requires-2 Inv-loop μ-loop
+list-weight-requires-2 c κs = search needs
 
 mul-table : tie.Need-mul-table Inv-loop μ-loop
 mul-table c = search needs
@@ -79,8 +79,8 @@ lists-of-spec =
     least-requires
     mul-there
     array-copy-out-there
-    weight-requires
-    weight-requires-2
+    list-weight-requires
+    list-weight-requires-2
     mul-table
     array-set-from-table
     after-requires
