@@ -14,7 +14,7 @@ use Rattle.network_data.specs.Decode.{Prefix}
 use Rattle.network_writing.specs.Encode.{rowItems, contextItems, innerItems, prefixValue, networkBytes}
 use Rattle.connectivity.specs.Connectivity.{ConnectivityValue}
 use Rattle.route64.specs.Routes.{Route}
-use Rattle.value_writing.specs.Encode.{ListValue, listBytes}
+use Rattle.value_writing.specs.Encode.{route64Bytes, ListValue, listBytes}
 use Rattle.value_writing.specs.Fits.{priorityFits, lateFits, connectivityFits, same, maskAgrees, route64Fits}
 use Rattle.record_writing.specs.Values.{Values, entryFor, present, entriesOf}
 use Rattle.record_writing.specs.Fits.{passes, valuesFit}
@@ -84,6 +84,17 @@ other-router : valuesFit (made absent (given record {
 }) absent absent []) ≡ false
 unfolding valuesFit passes all route64Fits maskAgrees same routersOf routers bitOf
 other-router = refl
+
+-- routers 0 and 63: `05 0b 07 80 00 00 00 00 00 00 01 9f 24`, document 01's line
+two-routers : sized (entriesOf (made absent (given record {
+  sequence = 7;
+  mask = 128 ∷ 0 ∷ 0 ∷ 0 ∷ 0 ∷ 0 ∷ 0 ∷ 1 ∷ [];
+  rows =
+      record { «router_id» = 0; «outgoing_link_quality» = 2; «incoming_link_quality» = 1; «route_cost» = 15 }
+      ∷ record { «router_id» = 63; «outgoing_link_quality» = 0; «incoming_link_quality» = 2; «route_cost» = 4 } ∷ [];
+}) absent absent [])) ≡ given (5 ∷ 11 ∷ 7 ∷ 128 ∷ 0 ∷ 0 ∷ 0 ∷ 0 ∷ 0 ∷ 0 ∷ 1 ∷ 159 ∷ 36 ∷ [])
+unfolding sized encodeAll entriesOf present entryFor encode header route64Bytes
+two-routers = refl
 
 -- one 4-bit prefix: `07 05 02 03 00 04 fd`, document 01's line with the stable bit clear
 one-prefix : sized (entriesOf (made absent absent (given (record { domain = 0; bits = 4; bytes = 253 ∷ []; context = absent; routes = []; borders = [] } ∷ [])) absent [])) ≡ given (7 ∷ 5 ∷ 2 ∷ 3 ∷ 0 ∷ 4 ∷ 253 ∷ [])
