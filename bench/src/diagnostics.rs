@@ -26,12 +26,12 @@ fn entry(ty: u8, value: &[u8]) -> Vec<u8> {
     bytes
 }
 
-fn some(len: usize) -> Vec<u8> {
+pub fn some(len: usize) -> Vec<u8> {
     (0..len).map(|k| (k * 37 + 11) as u8).collect()
 }
 
 /// All 64 routers, each with its route byte.
-fn route64() -> Vec<u8> {
+pub fn route64() -> Vec<u8> {
     let mut value = vec![7];
     value.extend([255; 8]);
     value.extend(some(64));

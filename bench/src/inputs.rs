@@ -1,6 +1,7 @@
 //! The inputs of about so many bytes, the same for both sides.
 
 use crate::diagnostics::Diagnostics;
+use crate::writing::Writing;
 
 pub const MOST: usize = 8192;
 
@@ -12,6 +13,7 @@ pub struct Input {
     pub mixed: Vec<u8>,
     pub list: Vec<u8>,
     pub diag: Diagnostics,
+    pub writing: Writing,
 }
 
 /// Entries of 64 bytes: 128 of them are 8,192 bytes.
@@ -46,6 +48,7 @@ impl Input {
             mixed: "aé本😀".bytes().cycle().take(size / 10 * 10).collect(),
             list: list(size),
             diag: Diagnostics::of(size),
+            writing: Writing::of(size),
             dataset,
         }
     }

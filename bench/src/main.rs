@@ -1,17 +1,20 @@
 //! Both sides in one program: `both WORK SIDE SIZE TURNS` does WORK that many times on an input of about SIZE bytes, by the
-//! library (ours) or by the Rust (rust), and prints what it got; `both list` prints the names of the work.
+//! library (ours) or by the Rust (rust), and prints what it got; `both list` prints the names of the work. The side `base` is
+//! what the library's `write` does besides writing.
 mod diagnostics;
 mod inputs;
+mod limit;
 mod ours;
 mod rust;
 mod sums;
+mod writing;
 
 use inputs::Input;
 
 type Work = fn(&Input, &mut [u8]) -> u64;
 
 /// Each with the library's way and the Rust's.
-const WORK: [(&str, Work, Work); 22] = [
+const WORK: [(&str, Work, Work); 24] = [
     ("framing", ours::framing, rust::framing),
     ("rewrite", ours::rewrite, rust::rewrite),
     ("last_value", ours::last_value, rust::last_value),
@@ -34,6 +37,8 @@ const WORK: [(&str, Work, Work); 22] = [
     ("child_table", |i, _| ours::payload(&i.diag.child_table), |i, _| rust::payload(&i.diag.child_table)),
     ("child_lists", |i, _| ours::payload(&i.diag.child_addresses), |i, _| rust::payload(&i.diag.child_addresses)),
     ("payload", |i, _| ours::payload(&i.diag.payload), |i, _| rust::payload(&i.diag.payload)),
+    ("write", |i, out| ours::write(&i.writing.routes, &i.writing.parts, i.writing.n, out), |i, out| limit::write(&i.writing.record, out)),
+    ("read_back", |i, _| ours::payload(&i.writing.payload), |i, _| rust::payload(&i.writing.payload)),
 ];
 
 fn main() {
@@ -46,12 +51,17 @@ fn main() {
         panic!("both WORK SIDE SIZE TURNS");
     };
     let (_, ours, rust) = WORK.iter().find(|(known, _, _)| known == name).expect("work that is known");
-    let work = if side == "ours" { ours } else { rust };
+    let base: Work = |i, out| ours::write(&i.writing.routes, &i.writing.parts, 0, out);
+    let work = match side.as_str() {
+        "ours" => *ours,
+        "rust" => *rust,
+        _ => base,
+    };
     let input = Input::of(size.parse().expect("a size"));
     let mut out = vec![0; 2 * inputs::MOST];
     let mut sum = 0u64;
     for _ in 0..turns.parse::<usize>().expect("turns") {
         sum = sum.wrapping_mul(31).wrapping_add(work(std::hint::black_box(&input), &mut out));
     }
-    println!("{sum}");
+    println!("{sum} {}", out.iter().fold(0u64, |hash, &byte| hash.wrapping_mul(31).wrapping_add(u64::from(byte))));
 }

@@ -13,6 +13,7 @@ unsafe extern "C" {
     fn speed_mode(s: *const u8, n: usize) -> u64;
     fn speed_network(s: *const u8, n: usize) -> u64;
     fn speed_payload(s: *const u8, n: usize) -> u64;
+    fn speed_write(r: *const u8, m: usize, s: *const u8, k: usize, n: u8, out: *mut u8, room: usize) -> u64;
 }
 
 pub fn framing(input: &Input, _: &mut [u8]) -> u64 {
@@ -62,4 +63,9 @@ pub fn network_data(bytes: &[u8]) -> u64 {
 
 pub fn payload(bytes: &[u8]) -> u64 {
     unsafe { speed_payload(bytes.as_ptr(), bytes.len()) }
+}
+
+/// A record with n of everything; for 0 one with nothing in it.
+pub fn write(routes: &[u8], parts: &[u8], n: u8, out: &mut [u8]) -> u64 {
+    unsafe { speed_write(routes.as_ptr(), routes.len(), parts.as_ptr(), parts.len(), n, out.as_mut_ptr(), out.len()) }
 }

@@ -1,7 +1,13 @@
 // The calls whose instructions bench/ counts, under C names: each answers what is given, or 2^63 plus the number of the refusal;
 // `speed_last` the length of what is found, and `speed_utf8` yes or no.
+mod filled;
+
 use diag_values::ModeData;
 use diag_values::ReadMode;
+use filled::all_lent;
+use filled::record_of;
+use filled::rows_of;
+use filled::tables_of;
 use network_data::Checked;
 use payload_sums::Summed;
 use payload_sums::sum_payload;
@@ -26,7 +32,9 @@ ghost use Rattle.network_data.specs.Decode.{countsOf, decodeNetworkData};
 ghost use Rattle.diag_values.specs.Values.{modeValue};
 ghost use Rattle.diag_rules.specs.Rule.{valueOf};
 ghost use Rattle.diag.specs.Diag.{decode};
+ghost use Rattle.record_writing.specs.Written.{written};
 ghost use Rattle.speed.specs.Code.{code};
+ghost use Rattle.speed.specs.Filled.{recordOf, lentWith};
 ghost use Rattle.value_sums.specs.Sums.{modeSum, countsSum};
 ghost use Rattle.payload_sums.specs.Rows.{payloadSum};
 
@@ -132,4 +140,24 @@ pub extern "C" fn speed_payload(payload: &[u8]) -> u64
         Summed::Sum(n) => n,
         Summed::Refused(r) => coded(Written::Refused(r)),
     }
+}
+
+// A record made of n, with the Route64 that `routes` is the value of, by the bridge that has its tables by value. They are made, and copied for the call, for
+// a record with no field in it as well, which n = 0 is: what n costs above 0 is the writing. One function does both, so that no compiler leaves out of one what
+// it leaves in the other.
+#[no_mangle]
+pub extern "C" fn speed_write(routes: &[u8], bytes: &[u8], n: u8, out: &mut [u8]) -> u64
+    ensures { λ r. ⌜ (r ≡ code (emit (written (recordOf n) (lentWith (now (routes .entry)) (now (bytes .entry)))) (now (out .entry)) .answer)) × (now (out .exit) ≡ emit (written (recordOf n) (lentWith (now (routes .entry)) (now (bytes .entry)))) (now (out .entry)) .left) ⌝ }
+{
+    let read = route64::decode_route64(routes, 0);
+    let route = read.route;
+    coded(writing_bridge::write(
+        record_of(n),
+        bytes,
+        route,
+        tables_of(),
+        rows_of(),
+        all_lent(),
+        out,
+    ))
 }
