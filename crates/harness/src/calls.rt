@@ -2,7 +2,8 @@
 //
 // To add a call: where its answer is what it writes into an output whose size is its last word, one `if` in its topic's group of
 // `..._calls` of `edit_texts`; where its answer is a text of its own, one in its topic's module of `..._texts`. A new group is
-// asked by the last one. Such a function needs no proof file unless it has a loop. A request that no group knows is a bad request.
+// asked by the last one. Such a function needs no proof file unless it has a loop. `write_texts` reads the words of its line itself, which are a record's
+// fields. A request that no group knows is a bad request.
 use crate::built_texts;
 use crate::dataset_texts;
 use crate::diag_texts;
