@@ -29,7 +29,8 @@ use Rattle.record_writing.specs.Fits.{passes, eightBytes}
 use Rattle.record_writing.specs.Lent.{Lent, partBytes, routeUsed, networkOf, childrenOf, listOf}
 use Rattle.record_writing.specs.Written.{countsFit, listInside, enough, routesCounted, tablesAgree, childrenAgree}
 use Rattle.diag_writing.specs.Checks.{entryFits, passedPrefix, listFitsIn}
-use Rattle.diag_writing.specs.Plans.{childrenUsed, noPrefixes, insideBy, routeBy, tablesBy, wholeBy, childrenBy, eightBy}
+use Rattle.writing_plans.specs.Used.{childrenUsed, noPrefixes}
+use Rattle.writing_plans.specs.Tests.{insideBy, routeBy, tablesBy, wholeBy, childrenBy, eightBy}
 use Rattle.writing_walks.specs.declared.Prefixes.{Prefixes}
 use Rattle.writing_walks.specs.declared.Used.{Used}
 use Rattle.diag_writing.proofs.Both.{both-true, true-both, pick-more, same-test, Near, near-same}

@@ -23,10 +23,6 @@ both-true false b h = contra false refl h
 pub true-both : (a b : Bool) → a ≡ true → b ≡ true → pick a b false ≡ true
 true-both a b e h = rw (e, h)
 
-pub pick-self : (b : Bool) → b ≡ pick b true false
-pick-self true = refl
-pick-self false = refl
-
 pub pick-more : (a b c : Bool) → pick (pick a b false) c false ≡ pick a (pick b c false) false
 pick-more true b c = refl
 pick-more false b c = refl

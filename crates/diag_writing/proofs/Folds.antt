@@ -24,11 +24,12 @@ use Rattle.network_writing.specs.Tables.{routesAsked, bordersAsked}
 use Rattle.record_writing.specs.Written.{shortList}
 use Rattle.diag_writing.specs.Pieces.{valueSize}
 use Rattle.diag_writing.specs.Checks.{grown, entryFits, passedPrefix, listFitsIn, passedList}
-use Rattle.diag_writing.specs.Plans.{least, countsIn, childrenUsed, usedOf}
+use Rattle.writing_plans.specs.Used.{least, countsIn, childrenUsed, usedOf}
 use Rattle.writing_walks.specs.declared.Prefixes.{Prefixes}
 use Rattle.writing_walks.specs.declared.Lists.{Lists}
 use Rattle.writing_walks.specs.declared.Used.{Used}
-use Rattle.diag_writing.proofs.Both.{contra, both-true, true-both, pick-self, pick-more, Near, near-grown}
+use Rattle.writing_plans.proofs.Picks.{pick-self}
+use Rattle.diag_writing.proofs.Both.{contra, both-true, true-both, pick-more, Near, near-grown}
 
 -- the rows that are used are the first that are counted
 pub take-least : {A : Type 0} (n : ℕ) (xs : List A) → take (least n (length xs)) xs ≡ take n xs

@@ -22,7 +22,9 @@ use Rattle.record_writing.specs.Fits.{passes, eightBytes, valuesFit}
 use Rattle.record_writing.specs.Lent.{Lent, partBytes, routeUsed, optCounts, networkOf, childrenOf, listOf, valuesOf}
 use Rattle.record_writing.specs.Written.{shortPart, shortList, partsShort, listsOf, lengthsFit, countsFit, inside, partsInside, listInside, enough, routesCounted, tablesAgree, childrenAgree, agrees}
 use Rattle.diag_writing.specs.Checks.{passedPrefix, listFitsIn, passedList}
-use Rattle.diag_writing.specs.Plans.{least, countsIn, childrenUsed, noPrefixes, noLists, usedOf, lengthsBy, insideBy, partsInsideBy, routeBy, tablesBy, wholeBy, childrenBy, eightBy, listsBy, bytesBy, linksBy, fitsBy, Scanned}
+use Rattle.writing_plans.specs.Used.{least, countsIn, childrenUsed, noPrefixes, noLists, usedOf}
+use Rattle.writing_plans.specs.Tests.{lengthsBy, insideBy, partsInsideBy, routeBy, tablesBy, wholeBy, childrenBy, eightBy, listsBy, bytesBy, linksBy, fitsBy}
+use Rattle.diag_writing.specs.Plans.{Scanned}
 use Rattle.writing_walks.specs.declared.Prefixes.{Prefixes}
 use Rattle.writing_walks.specs.declared.Lists.{Lists}
 use Rattle.writing_walks.specs.declared.Used.{Used}

@@ -24,7 +24,8 @@ use Rattle.diag.specs.declared.NetDiagData.{NetDiagData}
 use Rattle.record_writing.specs.Values.{Field, field, fields, entryFor, present, listContent, entriesOf}
 use Rattle.record_writing.specs.Lent.{Lent, routeUsed, optCounts, networkOf, childrenOf, listOf, valuesOf}
 use Rattle.diag_writing.specs.Pieces.{fieldBytes, fieldsBytes, firstFields, linkFields, middleFields, lastFields, networkHeader, childHeader, beforeBytes, betweenBytes, afterBytes, listEntry}
-use Rattle.diag_writing.specs.Plans.{countsIn, Rows, Thirds, Goes}
+use Rattle.writing_plans.specs.Used.{countsIn}
+use Rattle.diag_writing.specs.Plans.{Rows, Thirds, Goes}
 use Rattle.writing_walks.specs.declared.Plan.{Plan}
 use Rattle.diag_writing.proofs.Entries.{fields-none, fields-more}
 

@@ -1,25 +1,15 @@
--- The bytes of a Connectivity, with its late fields and without; and its priority, read off the machine value of its field.
+-- The bytes of a Connectivity, with its late fields and without.
 -- Assumes nothing.
 use mathlib.Core.Path.{_≡_}
 use mathlib.Core.List.{List, [], _∷_}
 use Prim.Native.Nat.{ℕ, _*_}
 use lib.ListN.{getD, take}
-use mir.Syntax.{w8}
-use mir.Val.{Val, toZ, ofZ}
-use mir.ValLaws.{toZ-ofZ}
-use denote.Laws.{Is}
-use denote.Struct.Laws as LL
 use Rattle.wire_bytes.specs.Bytes.{bytesOf}
 use Rattle.diag_values.specs.declared.OptU8.the-variants as o8
 use Rattle.diag_values.specs.declared.OptU16.the-variants as o16
 use Rattle.connectivity.specs.Answers.{connectivityPaper}
 use Rattle.connectivity.specs.declared.Connectivity.{Connectivity}
-use Rattle.connectivity.proofs.Connectivity as C
-use Rattle.connectivity.proofs.Connectivity.Laws as C′
 use Rattle.value_writing.specs.Encode.{priorityBits, lateBytes, connectivityBytes}
-
-pub field-back : (c : Connectivity) (vs : List Val) → Is C.the-row c vs → toZ w8 (ofZ w8 (c .«parent_priority»)) ≡ c .«parent_priority»
-field-back c vs p = toZ-ofZ w8 (c .«parent_priority») (record { sfits = LL.owed C.the-type C′.the-laws c vs p .0 .1 })
 
 module _ (c : Connectivity) (p : ℕ) (is : p ≡ priorityBits (c .«parent_priority»)) where
   abbrev seven : List ℕ → List ℕ

@@ -2,13 +2,10 @@ mod RowLoop
 mod PrefixParts
 mod PrefixLoop
 mod TableChecks
-pub mod Passed
 pub mod Counters
 pub mod Priority
 pub mod Late
-pub mod Left
-pub mod Routing
-pub mod Tested
+pub mod Stored
 pub mod Both
 pub mod Folds
 pub mod Nets

@@ -37,7 +37,11 @@ use Rattle.record_writing.specs.Lent.{Lent, optCounts, networkOf, valuesOf}
 use Rattle.record_writing.specs.Written.{shortPart, shortList, partsShort, listsOf, lengthsFit, countsFit, listInside, routesCounted, agrees, written}
 use Rattle.diag_writing.specs.Pieces.{Lies, ListLies, Counted, Short}
 use Rattle.diag_writing.specs.Checks.{entryFits, passedPrefix}
-use Rattle.diag_writing.specs.Plans.{countsIn, childrenUsed, noPrefixes, lengthsBy, insideBy, tablesBy, childrenBy, eightBy, fitsBy, networkSize, fixedSize, fixedCount, totalSize, Planning, planPaper, stopped, sizedBy, planBy, Scanned, Rows, Thirds, Goes, Planned}
+use Rattle.writing_plans.specs.Used.{countsIn, childrenUsed, noPrefixes}
+use Rattle.writing_plans.specs.Tests.{lengthsBy, insideBy, tablesBy, childrenBy, eightBy, fitsBy}
+use Rattle.writing_plans.specs.Sizes.{networkSize, fixedSize, fixedCount, totalSize}
+use Rattle.writing_plans.specs.Plans.{Planning, planPaper, stopped, sizedBy, planBy}
+use Rattle.diag_writing.specs.Plans.{Scanned, Rows, Thirds, Goes, Planned}
 use Rattle.writing_walks.specs.declared.Prefixes.{Prefixes}
 use Rattle.writing_walks.specs.declared.Lists.{Lists}
 use Rattle.writing_walks.specs.declared.Used.{Used}

@@ -31,6 +31,7 @@ use Rattle.network_data.proofs.PrefixEntry.Laws as E′
 use Rattle.network_writing.specs.Encode.{routeBytes, borderBytes, itemBytes, itemsBytes, rowItems, contextItems, innerItems, prefixValue}
 use Rattle.network_writing.specs.Tables.{contextOf}
 use Rattle.network_writing.proofs.Rows.{route-size, border-size}
+use Rattle.writing_walks.specs.declared.Cursor.{Cursor}
 use Rattle.diag_writing.specs.Pieces.{rowsSize, contextSize, valueSize, rowsMark, headBytes, borderMark, tailBytes, prefixFrom, prefixBytes}
 
 -- ---- bytes that are stored one by one, and the first n of an array
@@ -68,10 +69,10 @@ module _ (y : OptContext) where
     unfolding contextItems joined
     context-length = rw told
 
-    pub context-put : (out left : List ℕ) (at start x : ℕ) → left ≡ put out at (6 ∷ (2 % 256) ∷ []) → start ≡ at + 2 → x ≡ bit (c .«is_compress») 16 + c .«context_id» % 16
+    pub context-put : (out left : List ℕ) (at start x ty : ℕ) → left ≡ put out at (ty ∷ (2 % 256) ∷ []) → ty ≡ 6 → start ≡ at + 2 → x ≡ bit (c .«is_compress») 16 + c .«context_id» % 16
         → set (set left start x) (start + 1) (c .«context_length») ≡ put out at (itemsBytes (contextItems (contextOf y)))
     unfolding contextItems joined put
-    context-put out left at start x l e k = rw (told, l, e, k) (simp towards-suc)
+    context-put out left at start x ty l w e k = rw (told, l, w, e, k) (simp towards-suc)
 
 -- ---- its head
 module _ (e : PrefixEntry) where
@@ -94,14 +95,15 @@ module _ (e : PrefixEntry) where
     pub head-size : (bytesFor (e .«prefix_bit_length») ≤ 32) × (length (headBytes e) ≡ 4 + bytesFor (e .«prefix_bit_length») + length mark)
     head-size = (front-fits, omega (arith, length-append front mark, front-full))
 
-  pub head-put : (out left mid : List ℕ) (at start next n : ℕ) → left ≡ put out at (2 ∷ (n % 256) ∷ []) → start ≡ at + 2 → n ≡ valueSize e
+  pub head-put : (out left mid : List ℕ) (at start next n ty : ℕ) → left ≡ put out at (ty ∷ (n % 256) ∷ []) → ty ≡ 2 → start ≡ at + 2 → n ≡ valueSize e
       → mid ≡ put (set (set left start (e .«domain_id»)) (start + 1) (e .«prefix_bit_length»)) (start + 2) front → next ≡ start + 2 + length front
       → put mid next mark ≡ put out at (headBytes e)
-  head-put out left mid at start next n l a k m z =
+  head-put out left mid at start next n ty l w a k m z =
       let two = put-two left start (e .«domain_id») (e .«prefix_bit_length») in
       put-then (set (set left start (e .«domain_id»)) (start + 1) (e .«prefix_bit_length»)) mid (start + 2) next front mark m z
       ∙ put-then left (set (set left start (e .«domain_id»)) (start + 1) (e .«prefix_bit_length»)) start (start + 2) (e .«domain_id» ∷ e .«prefix_bit_length» ∷ []) (front ++ mark) two refl
-      ∙ put-then out left at start (2 ∷ (n % 256) ∷ []) (e .«domain_id» ∷ e .«prefix_bit_length» ∷ (front ++ mark)) l a
+      ∙ put-then out left at start (ty ∷ (n % 256) ∷ []) (e .«domain_id» ∷ e .«prefix_bit_length» ∷ (front ++ mark)) l a
+      ∙ ap (λ (j : ℕ). put out at (j ∷ (n % 256) ∷ e .«domain_id» ∷ e .«prefix_bit_length» ∷ (front ++ mark))) w
       ∙ ap (λ (j : ℕ). put out at (2 ∷ (j % 256) ∷ e .«domain_id» ∷ e .«prefix_bit_length» ∷ (front ++ mark))) k
 
 pos-of : (n : ℕ) → (n ≡ 0 → ⊥) → 0 < n
@@ -267,3 +269,7 @@ module _ (e : PrefixEntry) (hs : List HasRouteEntry) (h : ℕ) (bs : List Border
                   ∙ put-then p₁ p₂ a₁ a₂ routes (borderMark e ++ (borders ++ tailBytes e)) l₂ e₂
                   ∙ put-then o p₁ at a₁ (headBytes e) (routes ++ (borderMark e ++ (borders ++ tailBytes e))) l₁ e₁ ∙ ap (put o at) (sym prefix-pieces),
             )
+
+-- ---- where the next prefix begins
+pub cursor-is : (at x r y b : ℕ) → x ≡ r → y ≡ b → _≡_ {A = Cursor} (record { at = at; route = x; border = y }) (record { at = at; route = r; border = b })
+cursor-is at x r y b e f = rw (e, f)

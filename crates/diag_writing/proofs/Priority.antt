@@ -1,17 +1,14 @@
 -- A priority by its byte: 1, -1 and -2 are those whose machine values are 1, 255 and 254.
 -- Assumes nothing.
 use mathlib.Core.Path.{_≡_, refl, sym, ap, _∙_}
-use mathlib.Core.Bool.{true, not}
 use Prim.Native.Nat.{ℕ, zero, suc}
 use native.Mathlib.Omega.{arith}
 use lib.IntN.{ℤ, pos, negsuc}
-use lib.Dec.{eqb}
 use borrow.Author.Tests.{lt-leb}
 use mir.Syntax.{w8}
 use mir.Val.{SFits, toZ, ofZ}
 use mir.ValLaws.{toZ-ofZ}
 use Rattle.value_writing.specs.Encode.{priorityBits}
-use Rattle.value_writing.specs.Fits.{priorityFits}
 
 pub bits-at : (p : ℤ) (n : ℕ) → SFits w8 p → ofZ w8 p ≡ n → priorityBits (toZ w8 n) ≡ priorityBits p
 bits-at p n f e = ap (λ (k : ℕ). priorityBits (toZ w8 k)) (sym e) ∙ ap priorityBits (toZ-ofZ w8 p f)
@@ -24,16 +21,3 @@ bits-else (pos (suc (suc n))) a b c = rw (lt-leb (suc (suc n)) 1 (omega arith))
 bits-else (negsuc zero) a b c = absurd (b refl)
 bits-else (negsuc (suc zero)) a b c = absurd (c refl)
 bits-else (negsuc (suc (suc n))) a b c = rw (lt-leb (suc (suc n)) 1 (omega arith))
-
-pub fits-zero : (p : ℤ) → SFits w8 p → ofZ w8 p ≡ 0 → true ≡ priorityFits p
-unfolding priorityFits
-fits-zero p f e = ap (λ (k : ℕ). priorityFits (toZ w8 k)) (sym e) ∙ ap priorityFits (toZ-ofZ w8 p f)
-
-pub fits-else : (p : ℤ) (x : ℕ) → (ofZ w8 p ≡ 0 → ⊥) → x ≡ priorityBits p → not (eqb x 0) ≡ priorityFits p
-unfolding priorityBits priorityFits
-fits-else (pos zero) x a e = absurd (a refl)
-fits-else (pos (suc zero)) x a e = rw e
-fits-else (pos (suc (suc n))) x a e = rw (e, lt-leb (suc (suc n)) 1 (omega arith))
-fits-else (negsuc zero) x a e = rw e
-fits-else (negsuc (suc zero)) x a e = rw e
-fits-else (negsuc (suc (suc n))) x a e = rw (e, lt-leb (suc (suc n)) 1 (omega arith))

@@ -32,7 +32,8 @@ use Rattle.record_writing.specs.Fits.{passes}
 use Rattle.record_writing.specs.Lent.{Lent, partBytes, routeUsed, optCounts, networkOf, childrenOf, listOf, valuesOf}
 use Rattle.record_writing.specs.Written.{shortPart, listsOf, routesCounted, childrenAgree}
 use Rattle.diag_writing.specs.Pieces.{ListLies}
-use Rattle.diag_writing.specs.Plans.{insideBy, one, partSize, connectivitySize, routeSize, numbersSize, partsSize, fixedSize, numbersCount, partsCount, fixedCount}
+use Rattle.writing_plans.specs.Tests.{insideBy}
+use Rattle.writing_plans.specs.Sizes.{one, partSize, connectivitySize, routeSize, numbersSize, partsSize, fixedSize, numbersCount, partsCount, fixedCount}
 use Rattle.diag_writing.proofs.Agreed.{part-length}
 use Rattle.diag_writing.proofs.Folds.{listsSize}
 

@@ -19,12 +19,8 @@ use Rattle.diag_writing.specs.Pieces.{valueSize}
 use Rattle.diag_writing.specs.Checks.{grown, prefixHeld, entryFits, passedPrefix, listFitsIn, passedList}
 use Rattle.writing_walks.specs.declared.Prefixes.{Prefixes}
 use Rattle.writing_walks.specs.declared.Lists.{Lists}
+use Rattle.writing_plans.proofs.Tested.{no-entry}
 use Rattle.diag_writing.proofs.Both.{both-true}
-
--- what ends within n, counted from its start
-pub leb-from : (s l n : ℕ) → s ≤ n → leb l (n - s) ≡ leb (s + l) n
-leb-from s l n h =
-    by-test (leb (s + l) n) (λ t. le-leb l (n - s) (omega (arith, leb-true (s + l) n t)) ∙ sym t) (λ t. lt-leb l (n - s) (omega (arith, leb-false (s + l) n t)) ∙ sym t)
 
 -- a prefix that passed
 pub entry-fits : (e : PrefixEntry) → entryFits e ≡ true → (e .«has_routes» ≤ 96) × (e .«border_routers» ≤ 96) × (valueSize e ≤ 255)
@@ -58,14 +54,6 @@ short-same false = refl
 grown-none : (s : ℕ) → s ≡ grown s 0
 unfolding grown
 grown-none s = by-test (leb s mostBytes) (λ t. rw (t, add-zero)) (λ t. rw t)
-
-pub no-entry : (n : ℕ) → 65535 < n → entrySize n ≡ 0
-unfolding entrySize
-no-entry n h = rw (lt-leb n 65535 h)
-
-pub entry-most : (n : ℕ) → n ≤ 65535 → entrySize n ≤ 65539
-unfolding entrySize sizeOf
-entry-most n h = rw (le-leb n 65535 h) (by-test (leb n 254) (λ t. rw t (omega arith)) (λ t. rw t (omega arith)))
 
 module _ (f : Lists) (x : ChildIpv6AddrInfo) (fit : Bool) (is : fit ≡ pick (f .fits) (listFitsIn (f .bytes) x) false) where
   pub list-long : 65533 < x .len → record { bytes = f .bytes; short = false; fits = fit; size = f .size } ≡ passedList f x

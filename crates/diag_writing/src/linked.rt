@@ -6,9 +6,7 @@ ghost use mathlib.Core.Path.{_≡_};
 ghost use Prim.Native.Nat.{_≤_};
 ghost use lib.ListN.{length};
 ghost use Rattle.connectivity.specs.Answers.{connectivityPaper};
-ghost use Rattle.diag_values.specs.Answers.{optAnswer8, optAnswer16};
 ghost use Rattle.value_writing.specs.Encode.{priorityBits, connectivityBytes};
-ghost use Rattle.value_writing.specs.Fits.{priorityFits, lateFits, connectivityFits};
 ghost use Rattle.diag_writing.specs.Short.{bytesIn};
 
 // The first len of its bytes.
@@ -30,42 +28,6 @@ fn priority_bits(p: i8) -> u8
         return 2;
     }
     0
-}
-
-fn priority_fits(p: i8) -> bool
-    ensures { λ r. ⌜ r ≡ priorityFits p ⌝ }
-{
-    if p == 0 {
-        return true;
-    }
-    priority_bits(p) != 0
-}
-
-fn late_fits(b: OptU16, d: OptU8) -> bool
-    ensures { λ r. ⌜ r ≡ lateFits (optAnswer16 b) (optAnswer8 d) ⌝ }
-{
-    match b {
-        OptU16::Some(_) => match d {
-            OptU8::Some(_) => true,
-            OptU8::None => false,
-        },
-        OptU16::None => match d {
-            OptU8::Some(_) => false,
-            OptU8::None => true,
-        },
-    }
-}
-
-// 15, where a field does not fit or one late field is alone.
-pub(crate) fn connectivity_fits(c: Connectivity) -> bool
-    ensures { λ r. ⌜ r ≡ connectivityFits (connectivityPaper c) ⌝ }
-{
-    if !priority_fits(c.parent_priority) {
-        return false;
-    }
-    let b = c.rx_off_child_buffer_size;
-    let d = c.rx_off_child_datagram_count;
-    late_fits(b, d)
 }
 
 // Its value, of 7 bytes or, with the late fields, of 10.

@@ -7,7 +7,7 @@ use route64::RouteDataEntry;
 ghost use mathlib.Core.Path.{_≡_};
 ghost use Prim.Native.Nat.{_≤_};
 ghost use Rattle.refusal.specs.Each.{bit};
-ghost use Rattle.value_writing.specs.Fits.{childFits, routeRowFits};
+ghost use Rattle.value_writing.specs.Fits.{childFits};
 ghost use Rattle.value_writing.specs.Encode.{modeByte, leaderBytes, countersBytes, routeByte, childBits, childBytes};
 
 // A bit of so much weight.
@@ -131,16 +131,4 @@ pub(crate) fn child_fits(c: ChildTableEntry) -> bool
         return false;
     }
     c.child_id <= 511
-}
-
-pub(crate) fn route_row_fits(r: RouteDataEntry) -> bool
-    ensures { λ x. ⌜ x ≡ routeRowFits r ⌝ }
-{
-    if r.outgoing_link_quality > 3 {
-        return false;
-    }
-    if r.incoming_link_quality > 3 {
-        return false;
-    }
-    r.route_cost <= 15
 }

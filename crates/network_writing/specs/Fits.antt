@@ -44,7 +44,8 @@ prefixFits p =
 unfoldable pub networkFits : List Prefix → Bool
 networkFits ps = all prefixFits ps
 
--- 12: "64 prefixes and, over all of them, 96 HasRoute rows and 96 BorderRouter rows"
+-- 12, "64 prefixes and, over all of them, 96 HasRoute rows and 96 BorderRouter rows", over the prefixes themselves. A hypothesis of the theorems: `write` tests
+-- the record's counts (`countsFit` of record_writing)
 unfoldable pub overSizes : List Prefix → Bool
 overSizes ps =
     pick (ltb mostPrefixes (length ps)) true (pick (ltb mostHasRoutes (length (allRoutes ps))) true (ltb mostBorderRouters (length (allBorders ps))))

@@ -35,4 +35,5 @@ pub mod DiagBridge
 pub mod PairRule
 pub mod Pairing
 pub mod Listing
+pub mod WritingPlans
 pub mod DiagWriting

@@ -1,5 +1,5 @@
 -- Which records can be written, over what they say. Document 02, One: "12 for tables over 01's Network Data sizes; then 15 if a field doesn't fit its bits
--- ...". 13, and what 12 and 15 say of a record's numbers, is the call's.
+-- ...". The tests of 13 and 12, and those of 15 for what is lent and counted, are in Written.antt.
 -- Assumes nothing.
 use Prim.Native.Nat.{ℕ}
 use mathlib.Core.Bool.{Bool, true, false}
@@ -19,7 +19,7 @@ passes f (given x) = f x
 passes f absent = true
 passes f (refused n p i) = true
 
--- 12: the sizes of Network Data
+-- 12 over the prefixes themselves, a hypothesis of the theorems: `write` tests the record's counts (`countsFit`)
 abbrev pub withinSizes : List Prefix → Bool
 withinSizes ps = pick (overSizes ps) false true
 

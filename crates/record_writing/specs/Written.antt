@@ -22,8 +22,8 @@ use Rattle.record_writing.specs.Values.{entriesOf}
 use Rattle.record_writing.specs.Fits.{passes, valuesFit}
 use Rattle.record_writing.specs.Lent.{Lent, optCounts, childrenOf, valuesOf}
 
--- ---- 13, "value over 65,535 bytes ... to be written", by the lengths that the record names. Network Data within 12 and 15 is never so long, nor is any value
--- but these
+-- ---- 13, "value over 65,535 bytes ... to be written", by the lengths that the record names. Within 12 and 15 Network Data is never so long, and an EUI-64 of
+-- any length but 8 is 15
 
 abbrev pub shortPart : Part → Bool
 shortPart q = leb (q .len) mostValue
@@ -89,7 +89,7 @@ agrees r l =
     (pick (passes (childrenAgree (l .children)) (optPart (r .«child_table»)))
     (pick (enough (l .lists) (r .«child_ipv6_addresses»)) (all (listInside (l .bytes)) (listsOf r l)) false) false) false) false) false
 
--- 13, 12, 15, then 10; 11 is `emit`'s
+-- 13, 12, 15, then 10; 11 is `emit`'s. 15 is `agrees` (what is lent and counted) and `valuesFit` (bits, lengths, rules)
 unfoldable pub written : NetDiagData → Lent → Answer (List ℕ)
 written r l =
     pick (lengthsFit r l)

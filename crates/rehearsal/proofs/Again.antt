@@ -1,5 +1,5 @@
--- "A record that was read is never refused 10, 12, 13 or 15 on writing (READINGS T1 viii); and writing what was read and reading it again gives the same record",
--- for what the calls handed out. This is `rewritten`.
+-- A record that was read is never refused 10, 12, 13 or 15 on writing; and writing what was read and reading it again gives the same record, for what the calls
+-- handed out. This is `rewritten`.
 -- Assumes nothing.
 use mathlib.Core.Path.{_≡_, refl, sym, ap, _∙_}
 use mathlib.Core.Bool.{true}

@@ -1,4 +1,4 @@
--- "a record that was read is never refused 10, 12, 13 or 15 on writing": the tests of 13, 12 and 15 that are the call's own.
+-- A record that was read is never refused 10, 12, 13 or 15 on writing: the tests of 13, 12 and 15 that are the call's own.
 -- Assumes nothing.
 use mathlib.Core.Path.{_≡_, refl, sym, ap, _∙_}
 use mathlib.Core.Bool.{true}

@@ -81,7 +81,7 @@ nothing : written (made p.None n.None p.None p.None 0) (tables [] [] []) ≡ giv
 unfolding written lengthsFit partsShort agrees partsInside passes all valuesFit valuesOf entriesOf present entryFor sized encodeAll
 nothing = refl
 
--- "Network Data present without prefixes", and a lent prefix that is not counted
+-- Network Data that is present without prefixes, and a lent prefix that is not counted
 uncounted : written (made p.None (network (counts 0 0 0)) p.None p.None 0) (tables [] (aPrefix ∷ []) []) ≡ given (7 ∷ 0 ∷ [])
 unfolding written lengthsFit partsShort agrees partsInside passes all valuesFit valuesOf entriesOf present entryFor sized encodeAll encode header countsFit tablesAgree networkFits networkBytes joined prefixesOf routesAsked bordersAsked
 uncounted = refl
@@ -115,7 +115,7 @@ long-eui : written (made p.None n.None p.None (p.Some 0 65536) 0) (tables [] [] 
 unfolding written lengthsFit partsShort agrees partsInside passes all
 long-eui = refl
 
--- "a present child table without rows `10 00`"; four bytes are not whole rows, nor is one row that is not lent
+-- a child table that is present without rows, `10 00`; four bytes are not whole rows, nor is one row that is not lent
 no-children : written (made p.None n.None (p.Some 9 0) p.None 0) (tables [] [] []) ≡ given (16 ∷ 0 ∷ [])
 unfolding written lengthsFit partsShort agrees partsInside passes all valuesFit valuesOf entriesOf present entryFor sized encodeAll encode header childrenBytes joined
 no-children = refl

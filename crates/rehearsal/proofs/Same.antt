@@ -51,6 +51,7 @@ use Rattle.record_writing.specs.Reading.{saying, unplaced}
 use Rattle.record_writing.specs.Again.{flat, listValue}
 use Rattle.record_writing.specs.Lent.{Lent, partBytes, routeUsed, optCounts, networkOf, childrenOf, listOf}
 use Rattle.record_writing.proofs.Kept.{good-network}
+use Rattle.rehearsal.specs.Read.{childRow}
 use Rattle.rehearsal.proofs.Sits.{keeps, Sits, Network, Kept, good}
 
 -- ---- what is said, field by field
@@ -240,7 +241,7 @@ module _ (s : List ℕ) where
         (keeps ty (partBytes s q) h (w .plain))
 
     pub children-are : (cs : List ChildTableEntry) (q : Part) → Sits s 16 q
-        → ((k : ℕ) → k < q .len / 3 → nth cs k ≡ thenDo (valueOf 16 0 (partBytes s q)) (λ (v : List ℕ). nth (childRows v) k))
+        → ((k : ℕ) → k < q .len / 3 → nth cs k ≡ childRow (partBytes s q) k)
         → childrenOf cs q ≡ childRows (partBytes s q)
     children-are cs q w h =
         let v = partBytes s q in

@@ -31,6 +31,7 @@ use Rattle.value_writing.specs.Encode.{ListValue}
 use Rattle.record_writing.specs.Typed.{Given}
 use Rattle.record_writing.specs.Lent.{Lent, partBytes, routeUsed, optCounts, childrenOf, listOf}
 use Rattle.record_writing.specs.Written.{listsOf}
+use Rattle.rehearsal.specs.Read.{childRow, addressOf}
 
 -- q, which `NetDiagData::decode` answers on bs, says what r and the tables say
 pub record Same (r : NetDiagData) (l : Lent) (bs : List ℕ) (q : NetDiagData) : Type 0 where
@@ -78,9 +79,9 @@ pub record Rows (r : NetDiagData) (l : Lent) (bs : List ℕ) (q : NetDiagData) :
   -- `route64::decode_route64`
   pub router : Given (λ (p : Part). (place : ℕ) → laidOut (onGiven R.routeOf (valueOf 5 place (partBytes bs p))) ≡ routed (given tt) (routes (routeUsed (l .route64)))) (optPart (q .route64))
   -- `diag_rows::child_row`
-  pub child : Given (λ (p : Part). (k : ℕ) → thenDo (valueOf 16 0 (partBytes bs p)) (λ (v : List ℕ). nth (childRows v) k) ≡ nthIn (onGiven (childrenOf (l .children)) (optPart (r .«child_table»))) k) (optPart (q .«child_table»))
+  pub child : Given (λ (p : Part). (k : ℕ) → childRow (partBytes bs p) k ≡ nthIn (onGiven (childrenOf (l .children)) (optPart (r .«child_table»))) k) (optPart (q .«child_table»))
   -- `diag_rows::address`, which gives no bytes past the last
-  pub address : Given (λ (p : Part). (k : ℕ) → thenDo (valueOf 8 0 (partBytes bs p)) (λ (v : List ℕ). nth (addresses v) k) ≡ nthIn (onGiven (λ (x : Part). addresses (partBytes (l .bytes) x)) (optPart (r .addresses))) k) (optPart (q .addresses))
+  pub address : Given (λ (p : Part). (k : ℕ) → addressOf (partBytes bs p) k ≡ nthIn (onGiven (λ (x : Part). addresses (partBytes (l .bytes) x)) (optPart (r .addresses))) k) (optPart (q .addresses))
   -- `child_lists::child_list`
   pub list : (k : ℕ) (x : ReadAddressList) → childListAnswer bs x ≡ childList k bs → listAnswer bs x ≡ onGiven (listOf (l .bytes)) (nth (listsOf r l) k)
 

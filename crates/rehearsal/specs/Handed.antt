@@ -12,7 +12,7 @@ use Rattle.network_data.specs.declared.HasRouteEntry.{HasRouteEntry}
 use Rattle.network_data.specs.declared.BorderRouterEntry.{BorderRouterEntry}
 use Rattle.diag_rules.specs.Rule.{valueOf}
 use Rattle.route64.specs.Routes.{routeOf, laidOut}
-use Rattle.diag_rows.specs.Rows.{Part, childRows}
+use Rattle.diag_rows.specs.Rows.{Part}
 use Rattle.diag_rows.specs.declared.ChildIpv6AddrInfo.{ChildIpv6AddrInfo}
 use Rattle.diag_rows.specs.declared.ReadAddressList.the-variants as a
 use Rattle.diag_entries.specs.Lists.{childList}
@@ -26,6 +26,7 @@ use Rattle.record_writing.specs.Typed.{Given}
 use Rattle.record_writing.specs.Reading.{reading}
 use Rattle.record_writing.specs.Lent.{Lent, partBytes, optCounts}
 use Rattle.record_writing.specs.Written.{written}
+use Rattle.rehearsal.specs.Read.{childRow}
 
 -- `diag_tables::decode` filled the three tables, whatever they held before
 pub record Filled (r : NetDiagData) (l : Lent) : Type 0 where
@@ -43,7 +44,7 @@ pub record Handed (r : NetDiagData) (l : Lent) : Type 0 where
   pub place : ℕ
   pub route64 : Given (λ (q : Part). l .route64 ≡ laidOut (onGiven routeOf (valueOf 5 place (partBytes (l .bytes) q))) .route) (optPart (r .route64))
   -- `diag_rows::child_row`
-  pub children : Given (λ (q : Part). (k : ℕ) → k < q .len / 3 → nth (l .children) k ≡ thenDo (valueOf 16 0 (partBytes (l .bytes) q)) (λ (v : List ℕ). nth (childRows v) k)) (optPart (r .«child_table»))
+  pub children : Given (λ (q : Part). (k : ℕ) → k < q .len / 3 → nth (l .children) k ≡ childRow (partBytes (l .bytes) q) k) (optPart (r .«child_table»))
   -- `child_lists::child_list`
   pub lists : (k : ℕ) → k < r .«child_ipv6_addresses» → thenDo (nth (l .lists) k) (λ (x : ChildIpv6AddrInfo). childListAnswer (l .bytes) (a.Value x)) ≡ childList k (l .bytes)
 

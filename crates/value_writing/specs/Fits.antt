@@ -66,7 +66,7 @@ wholeAddresses v = eqb (length v % 16) 0
 abbrev pub listFits : ListValue → Bool
 listFits l = pick (eqb (l .childId) (l .rloc16 % 512)) (wholeAddresses (l .addresses)) false
 
--- ---- numbers within their widths, as the code's types have them
+-- ---- numbers within their widths, as the code's types have them. No refusal: hypotheses of the theorems
 
 -- a number below another
 abbrev pub Under : ℕ → Answer ℕ → Type 0

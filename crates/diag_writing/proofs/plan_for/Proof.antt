@@ -26,7 +26,8 @@ use Rattle.diag_rows.specs.declared.ChildTableEntry.{ChildTableEntry}
 use Rattle.diag_rows.specs.declared.ChildIpv6AddrInfo.{ChildIpv6AddrInfo}
 use Rattle.record_writing.specs.Lent.{Lent, lent}
 use Rattle.diag_writing.specs.Checks.{passedRoute, passedBorder, passedChild, passedPrefix, passedList}
-use Rattle.diag_writing.specs.Plans.{least, childrenUsed, noPrefixes, noLists, usedOf, Scanned, Planned, Judged}
+use Rattle.writing_plans.specs.Used.{least, childrenUsed, noPrefixes, noLists, usedOf}
+use Rattle.diag_writing.specs.Plans.{Scanned, Planned, Judged}
 use Rattle.writing_walks.specs.declared.Prefixes.{Prefixes}
 use Rattle.writing_walks.specs.declared.Lists.{Lists}
 use Rattle.writing_walks.specs.declared.Used.{Used}
@@ -52,9 +53,9 @@ use Rattle.writing_walks.proofs.Lists as XL
 use Rattle.writing_walks.proofs.Lists.Laws as XL′
 use Rattle.writing_walks.proofs.Plan as XQ
 use Rattle.writing_walks.proofs.Plan.Laws as XQ′
-use Rattle.diag_writing.proofs.plan.count_used as count
-use Rattle.diag_writing.proofs.plan.count_used.Symbol as count-def
-use Rattle.diag_writing.proofs.plan.count_used.Met as count-thm
+use Rattle.writing_plans.proofs.count_used as count
+use Rattle.writing_plans.proofs.count_used.Symbol as count-def
+use Rattle.writing_plans.proofs.count_used.Met as count-thm
 use Rattle.diag_writing.proofs.plan.no_prefixes as none
 use Rattle.diag_writing.proofs.plan.no_prefixes.Symbol as none-def
 use Rattle.diag_writing.proofs.plan.no_prefixes.Met as none-thm
@@ -169,7 +170,7 @@ plan-for-spec 𝓤 H 𝓜 𝓖 𝓡 =
     (λ r n t ps hs bs cs ls room u f₀ f h b c g₀ is a d e k m i. ask-lists r n t ps hs bs cs ls room u is)
     (λ r n t ps hs bs cs ls room u f₀ f h b c g₀ g z is a d e k m i j o. ends r n t ps hs bs cs ls room u is f₀ f h b c g₀ g z a d e k m i j o)
     𝓤 H (𝓖 .A) (givenOf 𝓤 H 𝓜 𝓖) (tablesOf 𝓤 H 𝓜 (tables 𝓤 H 𝓜 𝓡 code.env))
-    (cited 𝓤 H (tripleOf 𝓤 H (𝓖 .A) count.signature (count.spec 𝓤 H (𝓖 .A) (𝓜 .mem) (𝓡 .run))) 𝓜 𝓡 code.env count-def.name count-def.routine code.calls-diag-writing·plan·count-used (count-thm.met 𝓤 H 𝓜 𝓖 𝓡))
+    (cited 𝓤 H (tripleOf 𝓤 H (𝓖 .A) count.signature (count.spec 𝓤 H (𝓖 .A) (𝓜 .mem) (𝓡 .run))) 𝓜 𝓡 code.env count-def.name count-def.routine code.calls-writing-plans·count-used (count-thm.met 𝓤 H 𝓜 𝓖 𝓡))
     (cited 𝓤 H (tripleOf 𝓤 H (𝓖 .A) none.signature (none.spec 𝓤 H (𝓖 .A) (𝓜 .mem) (𝓡 .run))) 𝓜 𝓡 code.env none-def.name none-def.routine code.calls-diag-writing·plan·no-prefixes (none-thm.met 𝓤 H 𝓜 𝓖 𝓡))
     (cited 𝓤 H (tripleOf 𝓤 H (𝓖 .A) prefixes.signature (prefixes.spec 𝓤 H (𝓖 .A) (𝓜 .mem) (𝓡 .run))) 𝓜 𝓡 code.env prefixes-def.name prefixes-def.routine code.calls-diag-writing·checks·pass-prefixes (prefixes-thm.met 𝓤 H 𝓜 𝓖 𝓡))
     (cited 𝓤 H (tripleOf 𝓤 H (𝓖 .A) routes.signature (routes.spec 𝓤 H (𝓖 .A) (𝓜 .mem) (𝓡 .run))) 𝓜 𝓡 code.env routes-def.name routes-def.routine code.calls-diag-writing·checks·pass-routes (routes-thm.met 𝓤 H 𝓜 𝓖 𝓡))

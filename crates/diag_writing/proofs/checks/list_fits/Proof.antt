@@ -4,7 +4,7 @@ use Prim.Native.Nat.{_+_}
 use native.Mathlib.Omega.{arith}
 use borrow.Author.Tests.{eq-eqb, ne-eqb, lt-leb}
 use Rattle.diag_writing.specs.Checks.{listFitsIn}
-use Rattle.diag_writing.proofs.TableChecks.{leb-from}
+use Rattle.writing_plans.proofs.Tested.{leb-from}
 use Rattle.diag_writing.proofs.checks.list_fits.Statement.{statement}
 use Rattle.diag_writing.proofs.checks.list_fits.Tie as tie
 

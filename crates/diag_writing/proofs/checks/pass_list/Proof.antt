@@ -7,7 +7,8 @@ use native.Mathlib.Omega.{arith}
 use borrow.Author.Needs.{needs}
 use Rattle.refusal.specs.Answer.{pick}
 use Rattle.diag_writing.specs.Checks.{grown}
-use Rattle.diag_writing.proofs.TableChecks.{entry-most, list-long, list-short}
+use Rattle.writing_plans.proofs.Tested.{entry-most}
+use Rattle.diag_writing.proofs.TableChecks.{list-long, list-short}
 use Rattle.diag_writing.proofs.checks.pass_list.Statement.{statement}
 use Rattle.diag_writing.proofs.checks.pass_list.Tie as tie
 

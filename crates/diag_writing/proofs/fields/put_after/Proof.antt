@@ -10,17 +10,17 @@ use Rattle.diag_writing.proofs.fields.put_after.Tie as tie
 put-part-requires : tie.Need-put-part-requires
 put-part-requires c κs =
     let s = c .before .before .before in
-    (s .pre .0 .channelPages, omega (arith, fields-size (lastFields (s .args .r) (s .args .bytes .now))))
+    (search (s .pre .0), omega (arith, fields-size (lastFields (s .args .r) (s .args .bytes .now))))
 
 put-part-requires-2 : tie.Need-put-part-requires-2
 put-part-requires-2 c κs =
     let s = c .before .before .before .before .before .before .before in
-    (s .pre .0 .typeList, omega (arith, fields-size (lastFields (s .args .r) (s .args .bytes .now))))
+    (search (s .pre .0), omega (arith, fields-size (lastFields (s .args .r) (s .args .bytes .now))))
 
 put-part-requires-3 : tie.Need-put-part-requires-3
 put-part-requires-3 c κs =
     let s = c .before .before .before .before .before .before .before .before .before .before .before in
-    (s .pre .0 .eui64, omega (arith, fields-size (lastFields (s .args .r) (s .args .bytes .now))))
+    (search (s .pre .0), omega (arith, fields-size (lastFields (s .args .r) (s .args .bytes .now))))
 
 same-length : tie.Need-same-length
 same-length c = search needs

@@ -2,7 +2,8 @@
 -- Assumes nothing.
 use mathlib.Core.Path.{refl, ap, _∙_}
 use Rattle.value_writing.specs.Encode.{priorityBits}
-use Rattle.diag_writing.proofs.Late.{field-back, no-buffer, no-count, both-late}
+use Rattle.writing_plans.proofs.Priority.{field-back}
+use Rattle.diag_writing.proofs.Late.{no-buffer, no-count, both-late}
 use native.Mathlib.Omega.{arith}
 use borrow.Author.Needs.{needs}
 use Rattle.diag_writing.proofs.linked.connectivity_bytes.Statement.{statement}

@@ -1,4 +1,4 @@
--- `plan::chosen` meets its contract.
+-- `diag_writing::plan::chosen` meets its contract.
 -- Assumes nothing.
 use borrow.Author.Needs.{needs}
 use Rattle.diag_writing.proofs.plan.chosen.Statement.{statement}

@@ -1,6 +1,6 @@
 -- `diag_writing::prefixes::put_head` meets its contract.
 -- Assumes nothing.
-use mathlib.Core.Path.{_∙_}
+use mathlib.Core.Path.{refl, _∙_}
 use native.Mathlib.Omega.{arith}
 use lib.ListN.{length-set}
 use borrow.Author.Needs.{needs}
@@ -80,7 +80,7 @@ returns c =
     let e = m .put-mark .ensures .0 in
     let g = f .put-front .ensures .0 in
     let k = i .put-rows-mark .ensures .0 in
-    (omega arith, i .put-rows-mark .ensures .1 ∙ head-put (s .args .e) _ _ _ _ _ _ _ (m .put-mark .ensures .1) e (m .before .before .value-size .ensures) (f .put-front .ensures .1) (omega (arith, front-full (s .args .e) _ (s .good .0))))
+    (omega arith, i .put-rows-mark .ensures .1 ∙ head-put (s .args .e) _ _ _ _ _ _ _ _ (m .put-mark .ensures .1) refl e (m .before .before .value-size .ensures) (f .put-front .ensures .1) (omega (arith, front-full (s .args .e) _ (s .good .0))))
 
 pub put-head-spec : {M : Type 1} → statement M
 put-head-spec =

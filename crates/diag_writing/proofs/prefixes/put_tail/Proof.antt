@@ -1,5 +1,6 @@
 -- `diag_writing::prefixes::put_tail` meets its contract.
 -- Assumes nothing.
+use mathlib.Core.Path.{refl}
 use native.Mathlib.Omega.{arith}
 use native.Mathlib.Nat.{add-zero}
 use lib.ListN.{length-set}
@@ -46,7 +47,7 @@ returns c =
     let told = k .before .before .before .x .given .1 in
     let n = context-length _ _ told in
     let e = k .put-mark .ensures .0 in
-    (omega arith, context-put _ _ told _ _ _ _ _ (k .put-mark .ensures .1) e (c .context-byte .ensures))
+    (omega arith, context-put _ _ told _ _ _ _ _ _ (k .put-mark .ensures .1) refl e (c .context-byte .ensures))
 
 returns-2 : tie.Need-returns-2
 returns-2 c =

@@ -3,7 +3,8 @@
 use mathlib.Core.Path.{_≡_}
 use Prim.Native.Nat.{_-_, _≤_}
 use lib.ListN.{length, length-set}
-use Rattle.diag_writing.proofs.Routing.{full-mask, full-rows, Stored, stored-start, stored-more, stored-end}
+use Rattle.writing_plans.proofs.Routing.{full-mask, full-rows}
+use Rattle.diag_writing.proofs.Stored.{Stored, stored-start, stored-more, stored-end}
 use borrow.Author.Needs.{needs}
 use Rattle.diag_writing.proofs.routers.route64_bytes.Statement.{statement}
 use Rattle.diag_writing.proofs.routers.route64_bytes.Tie as tie

@@ -1,6 +1,6 @@
 -- `diag_writing::values::child_fits` meets its contract.
 -- Assumes nothing.
-use Rattle.diag_writing.proofs.Passed.{two-passed}
+use Rattle.writing_plans.proofs.Picks.{two-passed}
 use borrow.Author.Tests.{lt-leb, le-leb}
 use Rattle.diag_writing.proofs.values.child_fits.Statement.{statement}
 use Rattle.diag_writing.proofs.values.child_fits.Tie as tie

@@ -1,0 +1,23 @@
+-- `writing_plans::sizes::has_u32` meets its contract.
+-- Assumes nothing.
+use borrow.Author.Needs.{needs}
+use Rattle.writing_plans.specs.Sizes.{one}
+use Rattle.writing_plans.proofs.sizes.has_u32.Statement.{statement}
+use Rattle.writing_plans.proofs.sizes.has_u32.Tie as tie
+
+enum-told : tie.Need-enum-told
+enum-told c = search needs
+
+enum-told-2 : tie.Need-enum-told-2
+enum-told-2 c = search needs
+
+returns : tie.Need-returns
+unfolding one
+returns c = (rw (c .enum-told .given .1), search needs)
+
+returns-2 : tie.Need-returns-2
+unfolding one
+returns-2 c = (rw (c .enum-told2 .given .1), search needs)
+
+pub has-u32-spec : {M : Type 1} → statement M
+has-u32-spec = tie.close (tie.spec enum-told enum-told-2 returns returns-2)

@@ -1,0 +1,4 @@
+pub mod Used
+pub mod Tests
+pub mod Sizes
+pub mod Plans
