@@ -34,7 +34,7 @@ ghost use Rattle.refusal.specs.Sizes.{mostBytes, mostEntries};
 ghost use Rattle.writing_plans.specs.Used.{usedOf};
 ghost use Rattle.writing_plans.specs.Plans.{planPaper, stopped, planBy, placedBy};
 
-// What is lent, and how many rows of each table a record uses.
+// How many rows of each table a record uses, of as many as are lent; `room` is the length of the output.
 pub fn count_used(
     r: NetDiagData,
     bytes: usize,
@@ -110,7 +110,8 @@ fn placed(size: usize, u: Used, p: Prefixes) -> Plan
     }
 }
 
-// The plan of the writer by what one pass over each table found. Refusals, all at place 0: 13, 12, 15, 10, 11.
+// The plan by what one pass over each table found: p of the prefixes, h, b and c of the HasRoute, BorderRouter and child rows, ls of the address lists.
+// Refusals, all at place 0: 13, 12, 15, 10, 11.
 pub fn plan_by(
     r: NetDiagData,
     t: Route64,
