@@ -5,6 +5,14 @@ use crate::sizes::MostRows;
 
 pub const NETWORK_DATA: u8 = 7;
 
+/// Types of Network Data TLVs, as they stand in the byte, twice the type: a prefix, and what is inside one.
+pub mod network_tlvs {
+    pub const PREFIX: u8 = 2;
+    pub const HAS_ROUTE: u8 = 0;
+    pub const BORDER_ROUTER: u8 = 4;
+    pub const CONTEXT: u8 = 6;
+}
+
 /// The first fault of a value, in wire order: 4, 5, or 12 where a Network Data value has more rows than it may have.
 pub fn fault_of(ty: u8, value: &[u8], most: &MostRows) -> Option<u32> {
     let length = value.len();

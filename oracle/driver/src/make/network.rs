@@ -1,13 +1,8 @@
 //! Network Data values for requests: whole ones, such with a fault inside, and those at each boundary.
 
 use crate::random::Random;
+use crate::rules::network_tlvs::{BORDER_ROUTER, CONTEXT, HAS_ROUTE, PREFIX};
 use crate::sizes::{MOST_BYTES, NETWORK_DATA};
-
-/// Types of Network Data TLVs, as they stand in the byte, twice the type: a prefix, and what is inside one.
-const PREFIX: u8 = 2;
-const HAS_ROUTE: u8 = 0;
-const BORDER_ROUTER: u8 = 4;
-const CONTEXT: u8 = 6;
 
 const HAS_ROUTE_ROW: usize = 3;
 const BORDER_ROUTER_ROW: usize = 4;

@@ -6,12 +6,7 @@ use meshcop::meshcop::diag::{
 };
 
 use super::fields::{AddressList, NetworkTables, Prefix, Value};
-
-/// Types of Network Data TLVs, as they stand in the byte, twice the type: a prefix, and what is inside one.
-const PREFIX: u8 = 2;
-const HAS_ROUTE: u8 = 0;
-const BORDER_ROUTER: u8 = 4;
-const CONTEXT: u8 = 6;
+use crate::rules::network_tlvs::{BORDER_ROUTER, CONTEXT, HAS_ROUTE, PREFIX};
 
 const CHILD_ROW: usize = 3;
 const RLOC16: usize = 2;
