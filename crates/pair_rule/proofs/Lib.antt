@@ -1,2 +1,3 @@
 pub mod Sense
+pub mod Parents
 pub mod Back

@@ -21,7 +21,7 @@ use Rattle.diag_entries.specs.Lists.{AddressList, addressList, addressLists}
 use Rattle.diag_entries.proofs.Checks.{checked-given}
 use Rattle.pair_rule.specs.Codes.{codeUnclear, codeOf, meant}
 use Rattle.pair_rule.specs.Pairing.{pairing}
-use Rattle.pairing.specs.Payload.{rowIds, listIds, pairings, paired, codes, rowPairing}
+use Rattle.pairing.specs.Payload.{rowIds, listRlocs, ownMac, pairings, paired, codes, rowPairing}
 use Rattle.pair_rule.specs.declared.Pairing.{Pairing}
 use Rattle.pair_rule.specs.declared.Pairing.the-variants as p
 use Rattle.pair_rule.proofs.Back.{Below, codes-back}
@@ -56,21 +56,21 @@ unfolding checked
 few-entries s is = subst Few (framed-by (framing s .entries) (framing s .entries) (framed 0 s) (only 0 s) is) (framed-few s)
 
 -- ---- so every pair has a list of a small number
-below-by : (rows lists : List ℕ) (id : ℕ) → length lists ≤ codeUnclear → Below codeUnclear (pairing rows lists id)
-below-by rows lists id few = by-answer (pairing rows lists id) refl
+below-by : (own : Answer ℕ) (rows lists : List ℕ) (id : ℕ) → length lists ≤ codeUnclear → Below codeUnclear (pairing own rows lists id)
+below-by own rows lists id few = by-answer (pairing own rows lists id) refl
   where
-    by-answer : (x : Pairing) → pairing rows lists id ≡ x → Below codeUnclear x
-    by-answer (p.Paired k) e = let low = paired-is rows lists id k e .number in omega arith
+    by-answer : (x : Pairing) → pairing own rows lists id ≡ x → Below codeUnclear x
+    by-answer (p.Paired k) e = let low = paired-is rows lists id own k e .number in omega arith
     by-answer p.None e = tt
     by-answer p.Unclear e = tt
 
-all-below : (rows lists ids : List ℕ) → length lists ≤ codeUnclear → Every (Below codeUnclear) (map (pairing rows lists) ids)
-all-below rows lists [] few = tt
-all-below rows lists (id ∷ ids) few = (below-by rows lists id few, all-below rows lists ids few)
+all-below : (own : Answer ℕ) (rows lists ids : List ℕ) → length lists ≤ codeUnclear → Every (Below codeUnclear) (map (pairing own rows lists) ids)
+all-below own rows lists [] few = tt
+all-below own rows lists (id ∷ ids) few = (below-by own rows lists id few, all-below own rows lists ids few)
 
-lists-below : (es : List Entry) → length es ≤ mostEntries → length (listIds es) ≤ codeUnclear
-unfolding listIds addressLists
-lists-below es h = omega (arith, length-map (addressLists es) (λ (l : AddressList). l .childId), length-map (allOf 30 es) addressList, few-lists es)
+lists-below : (es : List Entry) → length es ≤ mostEntries → length (listRlocs es) ≤ codeUnclear
+unfolding listRlocs addressLists
+lists-below es h = omega (arith, length-map (addressLists es) (λ (l : AddressList). l .rloc16), length-map (allOf 30 es) addressList, few-lists es)
 
 -- THE CODES of a payload mean its pairings
 pub codes-mean : (s : List ℕ) → onGiven (λ (cs : List ℕ). map meant cs) (codes s) ≡ paired s
@@ -83,7 +83,7 @@ codes-mean s = by-check (checked s) refl
         let all = checked-given s (length es) (sym (ap (onGiven length) e)) .0 in
         let same : framing s .entries ≡ es = let both = sym all ∙ e in cc in
         let few = rw same at (few-entries s all) in
-        ap given (codes-back (pairings es) (all-below (rowIds es) (listIds es) (rowIds es) (lists-below es few)))
+        ap given (codes-back (pairings es) (all-below (ownMac es) (rowIds es) (listRlocs es) (rowIds es) (lists-below es few)))
     by-check absent e = refl
     by-check (refused n q i) e = refl
 

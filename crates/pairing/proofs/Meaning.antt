@@ -1,64 +1,68 @@
 -- What the answers for the rows of a payload say, for whoever reads them, and what they depend on. The entries es are those of a payload that decodes.
 -- Assumes nothing.
 use mathlib.Core.Path.{_≡_, refl, sym, ap, ap₂, _∙_}
-use mathlib.Core.Bool.{Bool}
+use mathlib.Core.Bool.{Bool, false}
 use mathlib.Core.List.{List, [], _∷_, _++_, map, map-map}
 use Prim.Native.Nat.{ℕ, _+_}
 use native.Mathlib.Omega.{arith}
+use lib.Dec.{eqb}
 use lib.ListN.{length, length-map}
-use borrow.Author.Tests.{ne-eqb}
+use borrow.Author.Tests.{eq-eqb, ne-eqb}
 use Rattle.refusal.specs.Answer.{pick, Answer, given, absent, refused, onGiven}
+use Rattle.refusal.specs.Every.{Every}
+use Rattle.laws.proofs.Tests.{by-test}
 use Rattle.tlv.specs.Entries.{Entry}
 use Rattle.tlv_last.specs.Last.{lastOf, valueOr}
 use Rattle.refusal.specs.Numbered.{nth}
 use Rattle.diag_rows.specs.Rows.{listed, childRows, addressListOf}
 use Rattle.diag_entries.specs.Parts.{last, allOf}
 use Rattle.diag_entries.specs.Checked.{checked}
-use Rattle.diag_entries.specs.Lists.{addressLists}
-use Rattle.pair_rule.specs.Pairing.{occurs, pairing}
-use Rattle.pairing.specs.Payload.{rowIds, listIds, pairings, paired, codes}
+use Rattle.diag_entries.specs.Lists.{AddressList, addressLists}
+use Rattle.pair_rule.specs.Pairing.{occurs, parentOf, childOf, counts, counting, pairing}
+use Rattle.pairing.specs.Payload.{rowIds, listRlocs, ownMac, pairings, paired, codes}
 use Rattle.pair_rule.specs.declared.Pairing.the-variants as p
 use Rattle.pairing.proofs.Ids.{rowId}
-use Rattle.pairing.proofs.Rowed.{nth-map}
-use Rattle.pair_rule.proofs.Sense.{Pair, paired-is, none-is, is-unclear, occurs-twice}
+use Rattle.pairing.proofs.Rowed.{nth-map, map-all, map-append}
+use Rattle.pair_rule.proofs.Parents.{after, same-list, moved, rule01, no-mac, another-parent, as-before}
+use Rattle.pair_rule.proofs.Sense.{Pair, Alone, paired-is, none-is, is-unclear, occurs-twice}
 
 -- ---- one row
 module _ (es : List Entry) where
   -- The answer for a row is a function of its child ID: where the row stands is nothing to it.
-  pub by-its-id : (k : ℕ) → nth (pairings es) k ≡ onGiven (pairing (rowIds es) (listIds es)) (nth (rowIds es) k)
+  pub by-its-id : (k : ℕ) → nth (pairings es) k ≡ onGiven (pairing (ownMac es) (rowIds es) (listRlocs es)) (nth (rowIds es) k)
   unfolding pairings
-  by-its-id k = nth-map (pairing (rowIds es) (listIds es)) (rowIds es) k
+  by-its-id k = nth-map (pairing (ownMac es) (rowIds es) (listRlocs es)) (rowIds es) k
 
   -- So rows with one child ID have one answer,
   pub same-id-same-answer : (i j : ℕ) → nth (rowIds es) i ≡ nth (rowIds es) j → nth (pairings es) i ≡ nth (pairings es) j
-  same-id-same-answer i j e = by-its-id i ∙ ap (onGiven (pairing (rowIds es) (listIds es))) e ∙ sym (by-its-id j)
+  same-id-same-answer i j e = by-its-id i ∙ ap (onGiven (pairing (ownMac es) (rowIds es) (listRlocs es))) e ∙ sym (by-its-id j)
 
   -- which is "unclear" if they are two.
   pub two-rows-unclear : (i j id : ℕ) → (i ≡ j → ⊥) → nth (rowIds es) i ≡ given id → nth (rowIds es) j ≡ given id
       → (nth (pairings es) i ≡ given p.Unclear) × (nth (pairings es) j ≡ given p.Unclear)
   two-rows-unclear i j id apart h k =
       let twice = occurs-twice id (rowIds es) i j apart h k in
-      let says = ap given (is-unclear (rowIds es) (listIds es) id (λ z. omega arith)) in
-      (by-its-id i ∙ ap (onGiven (pairing (rowIds es) (listIds es))) h ∙ says, by-its-id j ∙ ap (onGiven (pairing (rowIds es) (listIds es))) k ∙ says)
+      let says = ap given (is-unclear (ownMac es) (rowIds es) (listRlocs es) id (λ z. omega arith)) in
+      (by-its-id i ∙ ap (onGiven (pairing (ownMac es) (rowIds es) (listRlocs es))) h ∙ says, by-its-id j ∙ ap (onGiven (pairing (ownMac es) (rowIds es) (listRlocs es))) k ∙ says)
 
-  -- A row that is "paired with k" has a child ID that stands exactly once in the table and exactly once among the lists, namely in list k.
-  pub paired-once : (i k : ℕ) → nth (pairings es) i ≡ given (p.Paired k) → (id : ℕ) × (nth (rowIds es) i ≡ given id) × Pair (rowIds es) (listIds es) id k
+  -- A row that is "paired with k" has a child ID that stands exactly once in the table and exactly once among the lists of the payload's own parent,
+  -- namely in list k.
+  pub paired-once : (i k : ℕ) → nth (pairings es) i ≡ given (p.Paired k) → (id : ℕ) × (nth (rowIds es) i ≡ given id) × Pair (ownMac es) (rowIds es) (listRlocs es) id k
   paired-once i k h = by-id (nth (rowIds es) i) refl (sym (by-its-id i) ∙ h)
     where
-      by-id : (a : Answer ℕ) → nth (rowIds es) i ≡ a → onGiven (pairing (rowIds es) (listIds es)) a ≡ given (p.Paired k)
-          → (id : ℕ) × (nth (rowIds es) i ≡ given id) × Pair (rowIds es) (listIds es) id k
-      by-id (given id) e h = (id, e, paired-is (rowIds es) (listIds es) id k (cc))
+      by-id : (a : Answer ℕ) → nth (rowIds es) i ≡ a → onGiven (pairing (ownMac es) (rowIds es) (listRlocs es)) a ≡ given (p.Paired k)
+          → (id : ℕ) × (nth (rowIds es) i ≡ given id) × Pair (ownMac es) (rowIds es) (listRlocs es) id k
+      by-id (given id) e h = (id, e, paired-is (rowIds es) (listRlocs es) id (ownMac es) k (cc))
       by-id absent e h = absurd (let z : _≡_ {A = ℕ} 0 1 = cc in omega arith)
       by-id (refused n q j) e h = absurd (let z : _≡_ {A = ℕ} 0 1 = cc in omega arith)
 
-  -- A row with "none" has one that stands exactly once in the table and in no list.
-  pub alone-once : (i : ℕ) → nth (pairings es) i ≡ given p.None
-      → (id : ℕ) × (nth (rowIds es) i ≡ given id) × (occurs id (rowIds es) ≡ 1) × (occurs id (listIds es) ≡ 0)
+  -- A row with "none" has one that stands exactly once in the table and in no list of the payload's own parent.
+  pub alone-once : (i : ℕ) → nth (pairings es) i ≡ given p.None → (id : ℕ) × (nth (rowIds es) i ≡ given id) × Alone (ownMac es) (rowIds es) (listRlocs es) id
   alone-once i h = by-id (nth (rowIds es) i) refl (sym (by-its-id i) ∙ h)
     where
-      by-id : (a : Answer ℕ) → nth (rowIds es) i ≡ a → onGiven (pairing (rowIds es) (listIds es)) a ≡ given p.None
-          → (id : ℕ) × (nth (rowIds es) i ≡ given id) × (occurs id (rowIds es) ≡ 1) × (occurs id (listIds es) ≡ 0)
-      by-id (given id) e h = let k = none-is (rowIds es) (listIds es) id (cc) in (id, e, k .0, k .1)
+      by-id : (a : Answer ℕ) → nth (rowIds es) i ≡ a → onGiven (pairing (ownMac es) (rowIds es) (listRlocs es)) a ≡ given p.None
+          → (id : ℕ) × (nth (rowIds es) i ≡ given id) × Alone (ownMac es) (rowIds es) (listRlocs es) id
+      by-id (given id) e h = (id, e, none-is (rowIds es) (listRlocs es) id (ownMac es) (cc))
       by-id absent e h = absurd (let z : _≡_ {A = ℕ} 0 1 = cc in omega arith)
       by-id (refused n q j) e h = absurd (let z : _≡_ {A = ℕ} 0 1 = cc in omega arith)
 
@@ -73,23 +77,25 @@ module _ (es : List Entry) where
 
 -- ---- all rows
 
--- The answers depend on nothing but the rows of the last child table and the address lists, in their order.
+-- The answers depend on nothing but the rows of the last child table, the last MAC Address, and the address lists, in their order.
 abbrev bytesOf : Entry → List ℕ
 bytesOf e = e .value
 
-pub rows-and-lists : (es fs : List Entry) → valueOr (last 16 es) ≡ valueOr (last 16 fs) → map bytesOf (allOf 30 es) ≡ map bytesOf (allOf 30 fs)
-    → pairings es ≡ pairings fs
-unfolding pairings rowIds listIds addressLists
-rows-and-lists es fs table lists =
-    let ids : (gs : List Entry) → listIds gs ≡ map (λ (v : List ℕ). addressListOf v .«child_id») (map bytesOf (allOf 30 gs))
+pub rows-and-lists : (es fs : List Entry) → ownMac es ≡ ownMac fs → valueOr (last 16 es) ≡ valueOr (last 16 fs)
+    → map bytesOf (allOf 30 es) ≡ map bytesOf (allOf 30 fs) → pairings es ≡ pairings fs
+unfolding pairings rowIds listRlocs addressLists
+rows-and-lists es fs own table lists =
+    let rlocs : (gs : List Entry) → listRlocs gs ≡ map (λ (v : List ℕ). addressListOf v .rloc16) (map bytesOf (allOf 30 gs))
     = λ gs. map-map _ _ (allOf 30 gs) ∙ sym (map-map _ _ (allOf 30 gs)) in
-    ap₂ (λ (v : List ℕ) (l : List ℕ). map (pairing (map rowId (childRows v)) l) (map rowId (childRows v))) table (ids es ∙ ap (map _) lists ∙ sym (ids fs))
+    ap (λ (o : Answer ℕ). map (pairing o (rowIds es) (listRlocs es)) (rowIds es)) own
+    ∙ ap₂ (λ (v : List ℕ) (l : List ℕ). map (pairing (ownMac fs) (map rowId (childRows v)) l) (map rowId (childRows v)))
+    table (rlocs es ∙ ap (map _) lists ∙ sym (rlocs fs))
 
 -- so for two payloads that decode
-pub same-answers : (s t : List ℕ) (es fs : List Entry) → checked s ≡ given es → checked t ≡ given fs → valueOr (last 16 es) ≡ valueOr (last 16 fs)
-    → map bytesOf (allOf 30 es) ≡ map bytesOf (allOf 30 fs) → (paired s ≡ paired t) × (codes s ≡ codes t)
+pub same-answers : (s t : List ℕ) (es fs : List Entry) → checked s ≡ given es → checked t ≡ given fs → ownMac es ≡ ownMac fs
+    → valueOr (last 16 es) ≡ valueOr (last 16 fs) → map bytesOf (allOf 30 es) ≡ map bytesOf (allOf 30 fs) → (paired s ≡ paired t) × (codes s ≡ codes t)
 unfolding paired codes
-same-answers s t es fs h k table lists = let same = rows-and-lists es fs table lists in (rw (h, k) (ap given same), rw (h, k) (rw same))
+same-answers s t es fs h k own table lists = let same = rows-and-lists es fs own table lists in (rw (h, k) (ap given same), rw (h, k) (rw same))
 
 -- An entry of any other type, known or not, may be left out, put in or moved.
 last-other : (ty : ℕ) (best : Answer Entry) (a b : List Entry) (e : Entry) → (e .ty ≡ ty → ⊥) → lastOf ty best (a ++ e ∷ b) ≡ lastOf ty best (a ++ b)
@@ -102,6 +108,102 @@ unfolding allOf
 all-other ty [] b e h = rw (ne-eqb _ _ h)
 all-other ty (x ∷ a) b e h = rw (all-other ty a b e h)
 
-pub any-other-entry : (a b : List Entry) (e : Entry) → (e .ty ≡ 16 → ⊥) → (e .ty ≡ 30 → ⊥) → pairings (a ++ e ∷ b) ≡ pairings (a ++ b)
-any-other-entry a b e h k =
-    rows-and-lists (a ++ e ∷ b) (a ++ b) (ap valueOr (last-other 16 absent a b e h)) (ap (map bytesOf) (all-other 30 a b e k))
+own-other : (a b : List Entry) (e : Entry) → (e .ty ≡ 1 → ⊥) → ownMac (a ++ e ∷ b) ≡ ownMac (a ++ b)
+unfolding ownMac
+own-other a b e h = ap (onGiven _) (last-other 1 absent a b e h)
+
+pub any-other-entry : (a b : List Entry) (e : Entry) → (e .ty ≡ 1 → ⊥) → (e .ty ≡ 16 → ⊥) → (e .ty ≡ 30 → ⊥) → pairings (a ++ e ∷ b) ≡ pairings (a ++ b)
+any-other-entry a b e m h k =
+    rows-and-lists (a ++ e ∷ b) (a ++ b) (own-other a b e m) (ap valueOr (last-other 16 absent a b e h)) (ap (map bytesOf) (all-other 30 a b e k))
+
+-- ---- whose lists count (document 02, Two)
+
+-- The top six bits of a paired list are the MAC Address's.
+pub paired-own : (es : List Entry) (i k : ℕ) → nth (pairings es) i ≡ given (p.Paired k) → onGiven parentOf (nth (listRlocs es) k) ≡ onGiven parentOf (ownMac es)
+paired-own es i k h =
+    let pair = paired-once es i k h .2 in
+    ap (onGiven parentOf) (pair .there) ∙ ap given (pair .ofParent) ∙ sym (ap (onGiven parentOf) (pair .named))
+
+-- Without a MAC Address every answer is "unclear", also that of a row that no list has.
+pub no-mac-unclear : (es : List Entry) → last 1 es ≡ absent → pairings es ≡ map (λ (id : ℕ). p.Unclear) (rowIds es)
+unfolding pairings ownMac
+no-mac-unclear es h = rw h (map-all _ _ (rowIds es) (no-mac (rowIds es) (listRlocs es)))
+
+-- A MAC Address that is not the last may be left out or put in.
+last-after : (ty : ℕ) (best other : Answer Entry) (b : List Entry) → (lastOf ty absent b ≡ absent → ⊥) → lastOf ty best b ≡ lastOf ty other b
+unfolding lastOf
+last-after ty best other [] h = absurd (h refl)
+last-after ty best other (x ∷ b) h =
+    by-test (eqb (x .ty) ty) (λ t. rw t) (λ t. rw t (last-after ty best other b (rw t at h)))
+
+last-earlier : (ty : ℕ) (best : Answer Entry) (a b : List Entry) (e : Entry) → (last ty b ≡ absent → ⊥) → lastOf ty best (a ++ e ∷ b) ≡ lastOf ty best (a ++ b)
+unfolding lastOf
+last-earlier ty best [] b e h = last-after ty (pick (eqb (e .ty) ty) (given e) best) best b h
+last-earlier ty best (x ∷ a) b e h = last-earlier ty _ a b e h
+
+pub earlier-mac : (a b : List Entry) (e : Entry) → e .ty ≡ 1 → (last 1 b ≡ absent → ⊥) → pairings (a ++ e ∷ b) ≡ pairings (a ++ b)
+unfolding ownMac
+earlier-mac a b e h later =
+    rows-and-lists (a ++ e ∷ b) (a ++ b) (ap (onGiven _) (last-earlier 1 absent a b e later))
+    (ap valueOr (last-other 16 absent a b e (λ z. omega arith))) (ap (map bytesOf) (all-other 30 a b e (λ z. omega arith)))
+
+-- A list of another parent, or any where there is no MAC Address, may be left out or put in: every row's answer is the same list, none or unclear, and
+-- only the numbers of the lists after it change.
+all-split : (ty : ℕ) (a b : List Entry) → allOf ty (a ++ b) ≡ allOf ty a ++ allOf ty b
+unfolding allOf
+all-split ty [] b = refl
+all-split ty (x ∷ a) b = by-test (eqb (x .ty) ty) (λ t. rw t (ap (_∷_ x) (all-split ty a b))) (λ t. rw t (all-split ty a b))
+
+all-hit : (ty : ℕ) (e : Entry) (b : List Entry) → e .ty ≡ ty → allOf ty (e ∷ b) ≡ e ∷ allOf ty b
+unfolding allOf
+all-hit ty e b h = rw (eq-eqb _ _ h)
+
+with-it : (a b : List Entry) (e : Entry) → e .ty ≡ 30 → allOf 30 (a ++ e ∷ b) ≡ allOf 30 a ++ e ∷ allOf 30 b
+with-it a b e h = all-split 30 a (e ∷ b) ∙ ap (_++_ (allOf 30 a)) (all-hit 30 e b h)
+
+abbrev rlocOf : Entry → ℕ
+rlocOf e = addressListOf (e .value) .rloc16
+
+rlocs-are : (es : List Entry) → listRlocs es ≡ map rlocOf (allOf 30 es)
+unfolding listRlocs addressLists
+rlocs-are es = map-map _ _ (allOf 30 es)
+
+moved-all : (own : Answer ℕ) (rows ids x y : List ℕ) (l n : ℕ) → (onGiven parentOf own ≡ given (parentOf l) → ⊥) → length x ≡ n
+    → map (pairing own rows (x ++ l ∷ y)) ids ≡ map (moved n) (map (pairing own rows (x ++ y)) ids)
+moved-all own rows ids x y l n other many =
+    rw (← many)
+    (map-all (pairing own rows (x ++ l ∷ y)) (λ (id : ℕ). moved (length x) (pairing own rows (x ++ y) id)) ids (λ id. another-parent own l other rows x y id)
+    ∙ sym (map-map (moved (length x)) (pairing own rows (x ++ y)) ids))
+
+pub another-parents-list : (a b : List Entry) (e : Entry) → e .ty ≡ 30 → (onGiven parentOf (ownMac (a ++ b)) ≡ given (parentOf (rlocOf e)) → ⊥)
+    → pairings (a ++ e ∷ b) ≡ map (moved (length (allOf 30 a))) (pairings (a ++ b))
+unfolding pairings rowIds
+another-parents-list a b e h other =
+    let own = own-other a b e (λ z. omega arith) in
+    let table = last-other 16 absent a b e (λ z. omega arith) in
+    let with : listRlocs (a ++ e ∷ b) ≡ map rlocOf (allOf 30 a) ++ rlocOf e ∷ map rlocOf (allOf 30 b)
+    = rlocs-are (a ++ e ∷ b) ∙ ap (map rlocOf) (with-it a b e h) ∙ map-append rlocOf (allOf 30 a) (e ∷ allOf 30 b) in
+    let without : listRlocs (a ++ b) ≡ map rlocOf (allOf 30 a) ++ map rlocOf (allOf 30 b)
+    = rlocs-are (a ++ b) ∙ ap (map rlocOf) (all-split 30 a b) ∙ map-append rlocOf (allOf 30 a) (allOf 30 b) in
+    rw (own, table, with, without)
+    (moved-all (ownMac (a ++ b)) (rowIds (a ++ b)) (rowIds (a ++ b)) (map rlocOf (allOf 30 a)) (map rlocOf (allOf 30 b)) (rlocOf e) _ other (length-map (allOf 30 a) rlocOf))
+
+-- The number that is moved so is the same list's.
+pub the-same-list : (a b : List Entry) (e : Entry) (k : ℕ) → e .ty ≡ 30 → nth (allOf 30 (a ++ e ∷ b)) (after (length (allOf 30 a)) k) ≡ nth (allOf 30 (a ++ b)) k
+the-same-list a b e k h =
+    ap (λ (l : List Entry). nth l (after (length (allOf 30 a)) k)) (with-it a b e h)
+    ∙ same-list e (allOf 30 a) (allOf 30 b) k
+    ∙ ap (λ (l : List Entry). nth l k) (sym (all-split 30 a b))
+
+-- Where every list is of the payload's own parent, the answers are what document 01's rule gave.
+child-ids : (es : List Entry) → map childOf (listRlocs es) ≡ map (λ (l : AddressList). l .childId) (addressLists es)
+unfolding listRlocs addressLists
+child-ids es = ap (map childOf) (map-map _ _ (allOf 30 es)) ∙ map-map _ _ (allOf 30 es) ∙ sym (map-map _ _ (allOf 30 es))
+
+pub as-01-gave : (es : List Entry) (mac : ℕ) → ownMac es ≡ given mac → Every (λ (l : ℕ). parentOf l ≡ parentOf mac) (listRlocs es)
+    → pairings es ≡ map (rule01 (rowIds es) (map (λ (l : AddressList). l .childId) (addressLists es))) (rowIds es)
+unfolding pairings
+as-01-gave es mac own all =
+    rw (own, ← child-ids es)
+    (map-all (pairing (given mac) (rowIds es) (listRlocs es)) (rule01 (rowIds es) (map childOf (listRlocs es))) (rowIds es)
+    (λ id. as-before mac (rowIds es) (listRlocs es) id all))

@@ -7,7 +7,7 @@ use Prim.Native.Nat.{ℕ, _*_, _/_, _≤_, _<_}
 use native.Mathlib.Omega.{arith}
 use lib.ListN.{length, getD, length-map}
 use lib.Dec.{ltb, eqb}
-use borrow.Author.Tests.{eqb-true, ltb-false}
+use borrow.Author.Tests.{eq-eqb, eqb-true, ltb-false}
 use Rattle.refusal.specs.Sizes.{mostBytes}
 use Rattle.refusal.specs.Answer.{pick, Answer, given, absent, refused, thenDo, onGiven}
 use Rattle.refusal.specs.Every.{Every}
@@ -16,6 +16,7 @@ use Rattle.tlv.specs.Entries.{Entry, framing}
 use Rattle.tlv.specs.Limits.{framed, count}
 use Rattle.tlv.proofs.Tally.{Only, only, counted-short}
 use Rattle.tlv_last.specs.Last.{lastOf, lastEntry, valueOr, lastValue}
+use Rattle.wire.specs.Be.{be}
 use Rattle.diag_rules.specs.Rule.{keepsRule, valueOf}
 use Rattle.refusal.specs.Numbered.{nth}
 use Rattle.diag_rows.specs.Rows.{childAt, childRows, addressListOf}
@@ -26,8 +27,8 @@ use Rattle.diag_entries.specs.Lists.{addressLists}
 use Rattle.diag_entries.proofs.Checks.{Decodes, entry-other, checked-given, checked-refused}
 use Rattle.pair_rule.specs.Pairing.{judged, pairing}
 use Rattle.pair_rule.specs.Codes.{codeOf}
-use Rattle.pairing.specs.Payload.{rowIds, listIds, pairings, paired, codes, rowPairing}
-use Rattle.pairing.specs.Loops.{orZero, rowIdAt, rowsOf, listIdOf, listsOf, Counts, Places, codesBy}
+use Rattle.pairing.specs.Payload.{rowIds, listRlocs, ownMac, pairings, paired, codes, rowPairing}
+use Rattle.pairing.specs.Loops.{orZero, ownIn, under, rowIdAt, rowsOf, listRlocOf, listsOf, keysOf, Counts, Places, codesBy}
 use Rattle.pair_rule.specs.declared.Pairing.{Pairing}
 use Rattle.pairing.proofs.Rowed.{listed-map, listed-same, every-listed, map-same, nth-in, nth-out, nth-map}
 use Rattle.pairing.proofs.Tallies.{judged-is}
@@ -69,14 +70,44 @@ last-kept ty other best (e ∷ es) b d =
     (λ t. rw t (last-kept ty other best es b (d .1)))
 
 -- ---- the lists, where every entry decodes
-lists-are : (es : List Entry) → Every Decodes es → listsOf es ≡ listIds es
-unfolding listsOf listIds addressLists allOf listIdOf
+lists-are : (es : List Entry) → Every Decodes es → listsOf es ≡ listRlocs es
+unfolding listsOf listRlocs addressLists allOf listRlocOf
 lists-are [] d = refl
 lists-are (e ∷ es) d =
     by-test (eqb (e .ty) 30)
     (λ t. let own = own-kept 30 (λ z. omega arith) e (eqb-true _ _ t) (d .0) in
-    rw t (rw own (ap (λ (l : List ℕ). addressListOf (e .value) .«child_id» ∷ l) (lists-are es (d .1)))))
+    rw t (rw own (ap (λ (l : List ℕ). addressListOf (e .value) .rloc16 ∷ l) (lists-are es (d .1)))))
     (λ t. rw t (lists-are es (d .1)))
+
+-- ---- the MAC Address, where every entry decodes
+two-bytes : (v : List ℕ) → valueOf 1 0 v ≡ given v → length v ≡ 2
+unfolding valueOf keepsRule
+two-bytes v e =
+    by-test (ltb mostBytes (length v))
+    (λ t. absurd (let large : refused 1 0 0 ≡ given v = rw t at e in let z : _≡_ {A = ℕ} 0 1 = cc in omega arith))
+    (λ t. by-test (eqb (length v) 2)
+    (λ k. eqb-true _ _ k)
+    (λ k. absurd (let broken : refused 4 0 0 ≡ given v = rw (t, k) at e in let z : _≡_ {A = ℕ} 0 1 = cc in omega arith)))
+
+abbrev numberIn : Entry → ℕ
+numberIn e = be (e .value)
+
+own-number : (e : Entry) → valueOf 1 0 (e .value) ≡ given (e .value) → ownIn (e .value) ≡ given (numberIn e)
+unfolding ownIn
+own-number e h = rw (eq-eqb (length (e .value)) 2 (two-bytes (e .value) h))
+
+own-none : ownIn [] ≡ absent
+unfolding ownIn
+own-none = refl
+
+own-is : (best : Answer Entry) (es : List Entry) → ownIn (valueOr best) ≡ onGiven numberIn best → Every Decodes es
+    → ownIn (valueOr (lastOf 1 best es)) ≡ onGiven numberIn (lastOf 1 best es)
+unfolding lastOf
+own-is best [] b d = b
+own-is best (e ∷ es) b d =
+    by-test (eqb (e .ty) 1)
+    (λ t. rw t (own-is (given e) es (own-number e (own-kept 1 (λ z. omega arith) e (eqb-true _ _ t) (d .0))) (d .1)))
+    (λ t. rw t (own-is best es b (d .1)))
 
 -- ---- every child ID has nine bits
 low-by : (v : List ℕ) (k : ℕ) (a : Answer ChildTableEntry) → a ≡ rowOf v k → orZero (onGiven rowId a) < 512
@@ -134,10 +165,13 @@ module _ (s : List ℕ) (n : ℕ) (told : given n ≡ onGiven length (checked s)
   unfolding count
   short-payload = counted-short 0 s (length es) (sym (ap (onGiven length) framed-is))
 
+  last-is : (ty : ℕ) → lastValue ty s ≡ valueOr (last ty es)
+  unfolding lastValue lastEntry
+  last-is ty = rw framed-is
+
   module _ (v : List ℕ) (table : v ≡ lastValue 16 s) where
     table-is : v ≡ valueOr (last 16 es)
-    unfolding lastValue lastEntry
-    table-is = table ∙ rw framed-is
+    table-is = table ∙ last-is 16
 
     table-kept : valueOf 16 0 v ≡ given v
     unfolding valueOf keepsRule
@@ -150,17 +184,17 @@ module _ (s : List ℕ) (n : ℕ) (told : given n ≡ onGiven length (checked s)
     unfolding rowIds
     table-rows = rows-are v table-kept ∙ ap (λ (w : List ℕ). map rowId (childRows w)) table-is
 
-    answers-are : paired s ≡ given (map (pairing (rowsOf v) (listsOf es)) (rowsOf v))
+    answers-are : paired s ≡ given (map (pairing (ownMac es) (rowsOf v) (listsOf es)) (rowsOf v))
     unfolding paired pairings
     answers-are = rw (is, table-rows, lists-are es all)
 
     -- as many numbers as rows
-    pub codes-given : codes s ≡ given (map codeOf (map (pairing (rowsOf v) (listsOf es)) (rowsOf v)))
+    pub codes-given : codes s ≡ given (map codeOf (map (pairing (ownMac es) (rowsOf v) (listsOf es)) (rowsOf v)))
     unfolding codes
     codes-given = rw answers-are
 
-    pub codes-many : length (map codeOf (map (pairing (rowsOf v) (listsOf es)) (rowsOf v))) ≡ length v / 3
-    codes-many = length-map (map (pairing (rowsOf v) (listsOf es)) (rowsOf v)) codeOf ∙ length-map (rowsOf v) _ ∙ rows-length v
+    pub codes-many : length (map codeOf (map (pairing (ownMac es) (rowsOf v) (listsOf es)) (rowsOf v))) ≡ length v / 3
+    codes-many = length-map (map (pairing (ownMac es) (rowsOf v) (listsOf es)) (rowsOf v)) codeOf ∙ length-map (rowsOf v) _ ∙ rows-length v
 
     nth-row : (k : ℕ) → k < length v / 3 → nth (rowsOf v) k ≡ given (rowIdAt v k)
     unfolding rowsOf
@@ -171,23 +205,30 @@ module _ (s : List ℕ) (n : ℕ) (told : given n ≡ onGiven length (checked s)
     row-absent k h = rw answers-are (sym (nth-map _ (rowsOf v) k ∙ ap (onGiven _) (nth-out (rowIdAt v) (length v / 3) k h)))
 
     -- by the tables
-    module _ (rows count place : List ℕ) (r : Counts rows (rowsOf v)) (c : Counts count (listsOf es)) (q : Places place (listsOf es)) where
-      judged-by : (id : ℕ) → id < 512 → judged (getD rows id 0) (getD count id 0) (getD place id 0) ≡ pairing (rowsOf v) (listsOf es) id
-      judged-by id h = rw (r .is id h, c .is id h, q .is id h) (judged-is (rowsOf v) (listsOf es) id)
+    module _ (own : Answer ℕ) (mac : own ≡ ownIn (lastValue 1 s)) where
+      own-mac : own ≡ ownMac es
+      unfolding ownMac
+      own-mac = mac ∙ ap ownIn (last-is 1) ∙ own-is absent es own-none all
 
-      pub codes-are : codes s ≡ given (codesBy rows count place (rowsOf v))
-      unfolding codesBy
-      codes-are =
-          codes-given
-          ∙ ap given (map-map _ _ (rowsOf v) ∙ sym (map-same _ _ _ (rowsOf v) (λ id h. ap codeOf (judged-by id h)) (rows-low v)))
+      module _ (rows count place : List ℕ) (r : Counts rows (rowsOf v)) (c : Counts count (keysOf own (listsOf es))) (q : Places place (keysOf own (listsOf es))) where
+        judged-by : (id : ℕ) → id < 512 → under own (judged (getD rows id 0) (getD count id 0) (getD place id 0)) ≡ pairing (ownMac es) (rowsOf v) (listsOf es) id
+        judged-by id h =
+            rw (r .is id h, c .is id h, q .is id h)
+            (judged-is own (rowsOf v) (listsOf es) id h ∙ ap (λ (a : Answer ℕ). pairing a (rowsOf v) (listsOf es) id) own-mac)
 
-      pub row-answered : (k id : ℕ) → k < length v / 3 → id ≡ rowIdAt v k
-          → (x : Pairing) → x ≡ judged (getD rows id 0) (getD count id 0) (getD place id 0) → given x ≡ rowPairing k s
-      unfolding rowPairing
-      row-answered k id h e x made =
-          rw answers-are
-          (ap given (made ∙ judged-by id (rw e (row-low v k))) ∙ sym (nth-map _ (rowsOf v) k ∙ ap (onGiven _) (nth-row k h ∙ ap given (sym e))))
+        pub codes-are : codes s ≡ given (codesBy own rows count place (rowsOf v))
+        unfolding codesBy
+        codes-are =
+            codes-given
+            ∙ ap given (map-map _ _ (rowsOf v) ∙ sym (map-same _ _ _ (rowsOf v) (λ id h. ap codeOf (judged-by id h)) (rows-low v)))
 
-pub codes-length : (rows count place v : List ℕ) → length (codesBy rows count place (rowsOf v)) ≡ length v / 3
+        pub row-answered : (k id : ℕ) → k < length v / 3 → id ≡ rowIdAt v k
+            → (x : Pairing) → x ≡ under own (judged (getD rows id 0) (getD count id 0) (getD place id 0)) → given x ≡ rowPairing k s
+        unfolding rowPairing
+        row-answered k id h e x made =
+            rw answers-are
+            (ap given (made ∙ judged-by id (rw e (row-low v k))) ∙ sym (nth-map _ (rowsOf v) k ∙ ap (onGiven _) (nth-row k h ∙ ap given (sym e))))
+
+pub codes-length : (own : Answer ℕ) (rows count place v : List ℕ) → length (codesBy own rows count place (rowsOf v)) ≡ length v / 3
 unfolding codesBy
-codes-length rows count place v = length-map (rowsOf v) _ ∙ rows-length v
+codes-length own rows count place v = length-map (rowsOf v) _ ∙ rows-length v

@@ -1,6 +1,7 @@
 -- Tables by child ID: how a loop fills them, and what they hold at its end.
 -- Assumes nothing.
 use mathlib.Core.Path.{_≡_, refl, sym, ap, _∙_}
+use mathlib.Core.Bool.{false}
 use mathlib.Core.List.{List, [], _∷_}
 use Prim.Native.Nat.{ℕ, suc, _+_, _≤_, _<_}
 use native.Mathlib.Omega.{arith}
@@ -10,8 +11,10 @@ use lib.ListN.{length, getD, set, replicate, length-set, getD-replicate}
 use lib.Seq.{getD-set-same, getD-set-other}
 use borrow.Author.Tests.{eq-eqb, ne-eqb, eqb-true, eqb-false}
 use Rattle.laws.proofs.Tests.{by-test}
-use Rattle.pair_rule.specs.Pairing.{occurs, placeOf, judged, pairing}
-use Rattle.pairing.specs.Loops.{lastPlace, Counts, Places}
+use Rattle.refusal.specs.Answer.{pick, Answer, given, absent, refused}
+use Rattle.pair_rule.specs.Pairing.{occurs, childOf, counts, counting, numberOf, judged, pairing}
+use Rattle.pair_rule.proofs.Parents.{placeOf}
+use Rattle.pairing.specs.Loops.{lastPlace, countsIn, under, keyOf, keysOf, Counts, Places}
 
 -- ---- one element more: x itself, or another
 pub occurs-none : (i : ℕ) → occurs i [] ≡ 0
@@ -89,6 +92,21 @@ module _ (table all l : List ℕ) (n x : ℕ) (rest : List ℕ) (is : l ≡ x �
         rw (getD-set-other table x i n 0 (eqb-false i x e)) (sym (place-miss x l rest is i (getD table i 0) n (eqb-false i x e)) ∙ g .is i k));
   }
 
+-- one that no child ID is
+module _ (table all l : List ℕ) (n : ℕ) (rest : List ℕ) (is : l ≡ 512 ∷ rest) where
+  pub counting-other : Counting table all l n → Counting table all rest (n + 1)
+  counting-other g = record {
+    long = g .long;
+    low = λ i k. omega (arith, g .low i k);
+    is = λ i k. omega (arith, g .is i k, occurs-miss 512 l rest is i (λ e. omega arith));
+  }
+
+  pub placing-other : Placing table all l n → Placing table all rest (n + 1)
+  placing-other g = record {
+    long = g .long;
+    is = λ i k. sym (place-miss 512 l rest is i (getD table i 0) n (λ e. omega arith)) ∙ g .is i k;
+  }
+
 module _ (table all l : List ℕ) (n : ℕ) (none : l ≡ []) where
   pub counting-end : Counting table all l n → Counts table all
   counting-end g = record { is = λ i h. omega (arith, g .is i h, ap (occurs i) none ∙ occurs-none i) }
@@ -96,12 +114,12 @@ module _ (table all l : List ℕ) (n : ℕ) (none : l ≡ []) where
   pub placing-end : Placing table all l n → Places table all
   placing-end g = record { is = λ i h. sym (ap (lastPlace i (getD table i 0) n) none ∙ place-none i (getD table i 0) n) ∙ g .is i h }
 
--- the same rest, seen otherwise
-pub counting-same : (table all l m : List ℕ) (n : ℕ) → l ≡ m → Counting table all l n → Counting table all m n
-counting-same table all l m n e g = rw e at g
+-- the same rest and number, seen otherwise
+pub counting-same : (table all l m : List ℕ) (n k : ℕ) → l ≡ m → n ≡ k → Counting table all l n → Counting table all m k
+counting-same table all l m n k e f g = rw (e, f) at g
 
-pub placing-same : (table all l m : List ℕ) (n : ℕ) → l ≡ m → Placing table all l n → Placing table all m n
-placing-same table all l m n e g = rw e at g
+pub placing-same : (table all l m : List ℕ) (n k : ℕ) → l ≡ m → n ≡ k → Placing table all l n → Placing table all m k
+placing-same table all l m n k e f g = rw (e, f) at g
 
 -- ---- what the counts and the place say of a row
 
@@ -122,9 +140,32 @@ last-only x best n (y ∷ ys) h =
     (λ e. let z : suc (occurs x ys) ≡ 1 = rw e at h in rw e (last-not x n (n + 1) ys (omega arith) ∙ omega arith))
     (λ e. rw e (last-only x best (n + 1) ys (rw e at h) ∙ omega arith))
 
-pub judged-is : (rows lists : List ℕ) (id : ℕ) → judged (occurs id rows) (occurs id lists) (lastPlace id 0 0 lists) ≡ pairing rows lists id
-unfolding judged pairing
-judged-is rows lists id =
-    by-test (eqb (occurs id lists) 1)
-    (λ e. rw (last-only id 0 0 lists (eqb-true _ _ e)) (rw zero-add))
-    (λ e. rw e)
+-- by the keys, for a child ID
+module _ (mac x : ℕ) (low : x < 512) where
+  occurs-keys : (ls : List ℕ) → occurs x (keysOf (given mac) ls) ≡ occurs x (counting mac ls)
+  unfolding occurs keysOf keyOf countsIn counting
+  occurs-keys [] = refl
+  occurs-keys (l ∷ ls) =
+      by-test (counts mac l)
+      (λ a. rw a (rw (occurs-keys ls)))
+      (λ a. rw (a, ne-eqb 512 x (λ e. omega arith)) (occurs-keys ls))
+
+  place-keys : (ls : List ℕ) → placeOf x (keysOf (given mac) ls) ≡ numberOf mac x ls
+  unfolding placeOf keysOf keyOf countsIn numberOf
+  place-keys [] = refl
+  place-keys (l ∷ ls) =
+      by-test (counts mac l)
+      (λ a. rw a (rw (place-keys ls)))
+      (λ a. rw (a, ne-eqb 512 x (λ e. omega arith)) (ap suc (place-keys ls)))
+
+pub judged-is : (own : Answer ℕ) (rows lists : List ℕ) (id : ℕ) → id < 512
+    → under own (judged (occurs id rows) (occurs id (keysOf own lists)) (lastPlace id 0 0 (keysOf own lists))) ≡ pairing own rows lists id
+unfolding under pairing judged
+judged-is (given mac) rows lists id h =
+    by-test (eqb (occurs id (keysOf (given mac) lists)) 1)
+    (λ e.
+    rw (last-only id 0 0 (keysOf (given mac) lists) (eqb-true _ _ e)) (rw zero-add (rw (place-keys mac id h lists, occurs-keys mac id h lists))))
+    (λ e. let out : eqb (occurs id (counting mac lists)) 1 ≡ false = rw (occurs-keys mac id h lists) at e in
+    rw (occurs-keys mac id h lists, out))
+judged-is absent rows lists id h = refl
+judged-is (refused n q i) rows lists id h = refl

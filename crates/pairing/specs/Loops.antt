@@ -2,21 +2,27 @@
 -- Assumes nothing.
 use mathlib.Core.Path.{_≡_}
 use Prim.Native.Nat.{ℕ, _+_, _/_, _<_}
+use mathlib.Core.Bool.{Bool, false}
 use mathlib.Core.List.{List, [], _∷_, map}
 use lib.ListN.{length, getD}
 use lib.Dec.{eqb}
 use Rattle.refusal.specs.Answer.{pick, Answer, given, absent, refused, thenDo, onGiven}
 use Rattle.tlv.specs.Entries.{Entry}
+use Rattle.wire.specs.Be.{be}
 use Rattle.diag_rules.specs.Rule.{valueOf}
 use Rattle.refusal.specs.Numbered.{nth}
 use Rattle.diag_rows.specs.Rows.{listed, childRows, addressListOf}
 use Rattle.diag_rows.specs.declared.ChildTableEntry.{ChildTableEntry}
 use Rattle.diag_rows.specs.declared.ChildIpv6AddrInfo.{ChildIpv6AddrInfo}
 use Rattle.diag_entries.specs.Parts.{allOf}
-use Rattle.pair_rule.specs.Pairing.{occurs, judged}
+use Rattle.pair_rule.specs.Pairing.{occurs, childOf, counts, judged}
 use Rattle.pair_rule.specs.Codes.{codeOf}
+use Rattle.pair_rule.specs.declared.Pairing.{Pairing}
+use Rattle.pair_rule.specs.declared.Pairing.the-variants as p
+use Rattle.pairing.specs.declared.OwnMac.{OwnMac}
+use Rattle.pairing.specs.declared.OwnMac.the-variants as o
 
--- ---- child IDs, 0 where a value is refused: that does not occur in a payload that was checked
+-- ---- child IDs and RLOC16s, 0 where a value is refused: that does not occur in a payload that was checked
 
 abbrev pub orZero : Answer ℕ → ℕ
 orZero (given x) = x
@@ -29,11 +35,40 @@ rowIdAt v k = orZero (onGiven (λ (r : ChildTableEntry). r .«child_id») (thenD
 unfoldable pub rowsOf : (table : List ℕ) → List ℕ
 rowsOf v = listed (rowIdAt v) (length v / 3)
 
-unfoldable pub listIdOf : List ℕ → ℕ
-listIdOf v = orZero (onGiven (λ (x : ChildIpv6AddrInfo). x .«child_id») (onGiven addressListOf (valueOf 30 0 v)))
+unfoldable pub listRlocOf : List ℕ → ℕ
+listRlocOf v = orZero (onGiven (λ (x : ChildIpv6AddrInfo). x .rloc16) (onGiven addressListOf (valueOf 30 0 v)))
 
 unfoldable pub listsOf : List Entry → List ℕ
-listsOf es = map (λ (e : Entry). listIdOf (e .value)) (allOf 30 es)
+listsOf es = map (λ (e : Entry). listRlocOf (e .value)) (allOf 30 es)
+
+-- ---- the payload's own MAC Address, by the value of its last type 1: absent where that has not two bytes
+
+abbrev pub ownAnswer : OwnMac → Answer ℕ
+ownAnswer (o.Value mac) = given mac
+ownAnswer o.Absent = absent
+
+unfoldable pub ownIn : (value : List ℕ) → Answer ℕ
+ownIn v = pick (eqb (length v) 2) (given (be v)) absent
+
+-- ---- where it is absent no list counts, and every row is unclear
+
+unfoldable pub countsIn : (own : Answer ℕ) → (list : ℕ) → Bool
+countsIn (given mac) l = counts mac l
+countsIn absent l = false
+countsIn (refused n p i) l = false
+
+unfoldable pub under : (own : Answer ℕ) → Pairing → Pairing
+under (given mac) x = x
+under absent x = p.Unclear
+under (refused n q i) x = p.Unclear
+
+-- ---- the child ID that a list counts for; 512, which is nobody's, for one that does not count: child IDs have nine bits
+
+unfoldable pub keyOf : (own : Answer ℕ) → (list : ℕ) → ℕ
+keyOf own l = pick (countsIn own l) (childOf l) 512
+
+unfoldable pub keysOf : (own : Answer ℕ) → (lists : List ℕ) → List ℕ
+keysOf own ls = map (keyOf own) ls
 
 -- ---- tables by child ID
 
@@ -49,8 +84,8 @@ pub record Counts (table xs : List ℕ) : Type 0 where
 pub record Places (table xs : List ℕ) : Type 0 where
   pub is : (i : ℕ) → i < 512 → getD table i 0 ≡ lastPlace i 0 0 xs
 
-abbrev pub codeBy : (rows count place : List ℕ) → (id : ℕ) → ℕ
-codeBy rows count place id = codeOf (judged (getD rows id 0) (getD count id 0) (getD place id 0))
+abbrev pub codeBy : (own : Answer ℕ) → (rows count place : List ℕ) → (id : ℕ) → ℕ
+codeBy own rows count place id = codeOf (under own (judged (getD rows id 0) (getD count id 0) (getD place id 0)))
 
-unfoldable pub codesBy : (rows count place ids : List ℕ) → List ℕ
-codesBy rows count place ids = map (codeBy rows count place) ids
+unfoldable pub codesBy : (own : Answer ℕ) → (rows count place ids : List ℕ) → List ℕ
+codesBy own rows count place ids = map (codeBy own rows count place) ids

@@ -1,4 +1,4 @@
-// Rows of a payload's child table, paired with its address lists by child ID.
+// Rows of a payload's child table, paired by child ID with those of its address lists that are of its own parent router.
 use diag_rows::ReadAddressList;
 use diag_rows::ReadChild;
 use pair_rule::Pairing;
@@ -7,15 +7,18 @@ use refusal::Fault;
 use refusal::Refusal;
 use tlv::Counted;
 use tlv::Frame;
+use wire::Read16;
 ghost use mathlib.Core.Path.{_≡_};
 ghost use Prim.Native.Nat.{_/_, _≤_, _<_};
 ghost use lib.ListN.{length};
 ghost use Rattle.refusal.specs.Sizes.{mostBytes};
 ghost use Rattle.refusal.specs.Output.{put, output, emit};
 ghost use Rattle.tlv.specs.Entries.{framing};
+ghost use Rattle.tlv_last.specs.Last.{lastValue};
+ghost use Rattle.pair_rule.specs.Pairing.{parentOf, judged};
 ghost use Rattle.pairing.specs.Payload.{codes, rowPairing};
 ghost use Rattle.pairing.specs.Answers.{answeredAnswer, pairingAnswer};
-ghost use Rattle.pairing.specs.Loops.{rowIdAt, listIdOf, rowsOf, listsOf, Counts, Places, codesBy};
+ghost use Rattle.pairing.specs.Loops.{ownAnswer, ownIn, countsIn, under, rowIdAt, listRlocOf, rowsOf, listsOf, keysOf, Counts, Places, codesBy};
 
 // How many rows were answered.
 pub enum Answered {
@@ -30,10 +33,55 @@ pub enum ReadPairing {
     Refused(Refusal),
 }
 
-// For each child ID how many lists have it, and the number of the last of them.
+// The payload's own MAC Address, where it has one.
+enum OwnMac {
+    Value(u16),
+    Absent,
+}
+
+// For each child ID how many lists that count have it, and the number of the last of them among all lists.
 struct Lists {
     count: [u16; 512],
     place: [u16; 512],
+}
+
+// The parent router that an RLOC16 names: its top six bits.
+fn parent_of(rloc16: u16) -> u16
+    ensures { λ r. ⌜ r ≡ parentOf rloc16 ⌝ }
+{
+    rloc16 / 1024
+}
+
+// A payload's own MAC Address, its last.
+fn own_mac(payload: &[u8]) -> OwnMac
+    ensures { λ r. ⌜ ownAnswer r ≡ ownIn (lastValue 1 (now (payload .entry))) ⌝ }
+{
+    let value = tlv_last::last_value(payload, diag_rules::MAC_ADDRESS);
+    match wire::read_u16(value, 0) {
+        Read16::Value(mac) => OwnMac::Value(mac),
+        Read16::Absent => OwnMac::Absent,
+        Read16::Refused(_) => OwnMac::Absent,
+    }
+}
+
+// Whether an address list of that RLOC16 counts.
+fn is_own(own: OwnMac, rloc16: u16) -> bool
+    ensures { λ r. ⌜ r ≡ countsIn (ownAnswer own) rloc16 ⌝ }
+{
+    match own {
+        OwnMac::Value(mac) => parent_of(rloc16) == parent_of(mac),
+        OwnMac::Absent => false,
+    }
+}
+
+// What is said of a row whose child ID stands so often in the table and among the lists that count, in the list of that number last.
+fn judge_under(own: OwnMac, rows: u16, lists: u16, place: u16) -> Pairing
+    ensures { λ r. ⌜ r ≡ under (ownAnswer own) (judged rows lists place) ⌝ }
+{
+    match own {
+        OwnMac::Value(_) => judge(rows, lists, place),
+        OwnMac::Absent => Pairing::Unclear,
+    }
 }
 
 // The child ID of row k of a child table, 0 where there is no such row.
@@ -47,12 +95,12 @@ fn row_id(table: &[u8], k: usize) -> usize
     }
 }
 
-// The child ID of an address list, 0 where the value is none.
-fn list_id(value: &[u8]) -> usize
-    ensures { λ r. ⌜ (r ≡ listIdOf (now (value .entry))) × (r < 512) ⌝ }
+// The RLOC16 of an address list, 0 where the value is none.
+fn list_rloc16(value: &[u8]) -> u16
+    ensures { λ r. ⌜ r ≡ listRlocOf (now (value .entry)) ⌝ }
 {
     match diag_rows::decode_child_ipv6_addresses(value, 0) {
-        ReadAddressList::Value(list) => list.child_id as usize,
+        ReadAddressList::Value(list) => list.rloc16,
         ReadAddressList::Absent => 0,
         ReadAddressList::Refused(_) => 0,
     }
@@ -74,24 +122,30 @@ fn count_rows(table: &[u8]) -> [u16; 512]
     count
 }
 
-// How many lists have each child ID, and the number of the last of them.
-fn count_lists(payload: &[u8]) -> Lists
+// How many lists that count have each child ID, and the number of the last of them among all: a list that does not count has its number too.
+fn count_lists(payload: &[u8], own: OwnMac) -> Lists
     requires { ⌜ length (now payload) ≤ mostBytes ⌝ }
-    ensures { λ r. ⌜ Counts (r .count) (listsOf (framing (now (payload .entry)) .entries)) × Places (r .place) (listsOf (framing (now (payload .entry)) .entries)) ⌝ }
+    ensures { λ r. ⌜ Counts (r .count) (keysOf (ownAnswer own) (listsOf (framing (now (payload .entry)) .entries))) × Places (r .place) (keysOf (ownAnswer own) (listsOf (framing (now (payload .entry)) .entries))) ⌝ }
 {
     let mut count = [0u16; 512];
     let mut place = [0u16; 512];
-    let mut n: u16 = 0;
+    let mut counted: u16 = 0;
+    let mut others: u16 = 0;
     let mut at: usize = 0;
     loop {
         match tlv::frame_at(payload, at) {
             Frame::Entry { ty, start, len } => {
                 let next = start + len;
                 if ty == diag_rules::CHILD_IPV6_ADDRESSES {
-                    let id = list_id(&payload[start..next]);
-                    count[id] = count[id] + 1;
-                    place[id] = n;
-                    n += 1;
+                    let rloc16 = list_rloc16(&payload[start..next]);
+                    if is_own(own, rloc16) {
+                        let id = (rloc16 % 512) as usize;
+                        place[id] = counted + others;
+                        count[id] = count[id] + 1;
+                        counted += 1;
+                    } else {
+                        others += 1;
+                    }
                 }
                 at = next;
             }
@@ -106,15 +160,15 @@ fn count_lists(payload: &[u8]) -> Lists
 }
 
 // A number for each row of a table, from the start of out on.
-fn write_codes(table: &[u8], rows: [u16; 512], lists: Lists, out: &mut [u16])
+fn write_codes(table: &[u8], own: OwnMac, rows: [u16; 512], lists: Lists, out: &mut [u16])
     requires { ⌜ length (now table) / 3 ≤ length (now out) ⌝ }
-    ensures { λ _. ⌜ now (out .exit) ≡ put (now (out .entry)) 0 (codesBy rows (lists .count) (lists .place) (rowsOf (now (table .entry)))) ⌝ }
+    ensures { λ _. ⌜ now (out .exit) ≡ put (now (out .entry)) 0 (codesBy (ownAnswer own) rows (lists .count) (lists .place) (rowsOf (now (table .entry)))) ⌝ }
 {
     let n = table.len() / diag_rules::CHILD_ENTRY_LEN;
     let mut k: usize = 0;
     while k < n {
         let id = row_id(table, k);
-        out[k] = judge(rows[id], lists.count[id], lists.place[id]).code();
+        out[k] = judge_under(own, rows[id], lists.count[id], lists.place[id]).code();
         k += 1;
     }
 }
@@ -139,7 +193,14 @@ pub fn pair(payload: &[u8], out: &mut [u16]) -> Answered
             input: 0,
         });
     }
-    write_codes(table, count_rows(table), count_lists(payload), out);
+    let own = own_mac(payload);
+    write_codes(
+        table,
+        own,
+        count_rows(table),
+        count_lists(payload, own),
+        out,
+    );
     Answered::Rows(n)
 }
 
@@ -159,6 +220,7 @@ pub fn pair_row(payload: &[u8], k: usize) -> ReadPairing
     }
     let id = row_id(table, k);
     let rows = count_rows(table);
-    let lists = count_lists(payload);
-    ReadPairing::Value(judge(rows[id], lists.count[id], lists.place[id]))
+    let own = own_mac(payload);
+    let lists = count_lists(payload, own);
+    ReadPairing::Value(judge_under(own, rows[id], lists.count[id], lists.place[id]))
 }

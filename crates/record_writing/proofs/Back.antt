@@ -1,5 +1,5 @@
 -- Document 02, One, for a call's record and tables: "Reading what was written gives the record back". This is `back`; what is written is within document 01's
--- form (`written-formed`), and pairing on it is pairing on the tables that went in (`written-pairs`, `written-codes`).
+-- form (`written-formed`), and pairing on it is pairing on the record that went in (`written-pairs`, `written-codes`).
 -- Assumes nothing.
 use mathlib.Core.Path.{_≡_}
 use mathlib.Core.List.{List, map}

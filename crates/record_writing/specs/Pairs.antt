@@ -1,4 +1,4 @@
--- The pairing of what a record says: document 01's rule over its child table and its address lists.
+-- The pairing of what a record says: the rule of documents 01 and 02 over its MAC Address, its child table and its address lists.
 -- Assumes nothing.
 use Prim.Native.Nat.{ℕ}
 use mathlib.Core.List.{List, [], map}
@@ -18,9 +18,9 @@ rowsOr (refused n p i) = []
 abbrev pub tableIds : List ChildTableEntry → List ℕ
 tableIds rows = map (λ (r : ChildTableEntry). r .«child_id») rows
 
-abbrev pub idsOfLists : List ListValue → List ℕ
-idsOfLists ls = map (λ (l : ListValue). l .childId) ls
+abbrev pub rlocsOfLists : List ListValue → List ℕ
+rlocsOfLists ls = map (λ (l : ListValue). l .rloc16) ls
 
 -- what is said of each row of the table
 unfoldable pub pairingsOf : Values → List Pairing
-pairingsOf v = map (pairing (tableIds (rowsOr (v .childTable))) (idsOfLists (v .childLists))) (tableIds (rowsOr (v .childTable)))
+pairingsOf v = map (pairing (v .macAddr) (tableIds (rowsOr (v .childTable))) (rlocsOfLists (v .childLists))) (tableIds (rowsOr (v .childTable)))

@@ -41,7 +41,7 @@ module _ (r : NetDiagData) (l : Lent) (out left : List ℕ) where
     pub write-forms : Formed (take n left)
     write-forms = written-formed r l (take n left) front
 
-    -- pairing on what was written is pairing on the tables that went in
+    -- pairing on what was written is pairing on the record that went in
     pub write-codes : Machine r l → codes (take n left) ≡ given (map codeOf (pairingsOf (valuesOf r l)))
     write-codes m = written-codes r l (take n left) front m
 

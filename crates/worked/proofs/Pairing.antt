@@ -15,15 +15,18 @@ use Rattle.diag_rows.specs.Rows.{listed, childRows}
 use Rattle.diag_entries.specs.Parts.{allOf}
 use Rattle.diag_entries.specs.Checked.{entryValue, decoding, checked}
 use Rattle.diag_entries.specs.Lists.{addressLists}
-use Rattle.pair_rule.specs.Pairing.{occurs, placeOf, judged, pairing}
+use Rattle.pair_rule.specs.Pairing.{occurs, counts, counting, numberOf, judged, pairing}
 use Rattle.pair_rule.specs.Codes.{codeNone, codeUnclear}
-use Rattle.pairing.specs.Payload.{rowIds, listIds, pairings, paired, codes}
+use Rattle.pairing.specs.Payload.{rowIds, listRlocs, ownMac, pairings, paired, codes}
 
 -- an answer, and what it must be
 abbrev pub Line : Type 0
 Line = Answer (List ℕ) × Answer (List ℕ)
 
--- a table of one row, child 1, and address lists of child 1 under parents 10 and 11
+-- the payload's own MAC Address, of parent 10; a table of one row, child 1; and address lists of child 1 under parents 10 and 11
+abbrev pub mac10 : List ℕ → List ℕ
+mac10 rest = 0x01 ∷ 0x02 ∷ 0x28 ∷ 0x00 ∷ rest
+
 abbrev pub row : List ℕ → List ℕ
 row rest = 0x10 ∷ 0x03 ∷ 0x00 ∷ 0x01 ∷ 0x00 ∷ rest
 
@@ -38,23 +41,31 @@ lines =
     -- a battery level of no bytes, which pairing does not use, is refused as the decode refuses it
     (codes (0x0e ∷ 0x00 ∷ []), refused 4 0 0)
     -- twice in the table and in no list; once in the table and in two lists
-    ∷ (codes (0x10 ∷ 0x06 ∷ 0x00 ∷ 0x01 ∷ 0x00 ∷ 0x00 ∷ 0x01 ∷ 0x00 ∷ []), given (codeUnclear ∷ codeUnclear ∷ []))
-    ∷ (codes (row (list10 (list11 []))), given (codeUnclear ∷ []))
+    ∷ (codes (mac10 (0x10 ∷ 0x06 ∷ 0x00 ∷ 0x01 ∷ 0x00 ∷ 0x00 ∷ 0x01 ∷ 0x00 ∷ [])), given (codeUnclear ∷ codeUnclear ∷ []))
+    ∷ (codes (mac10 (row (list10 (list10 [])))), given (codeUnclear ∷ []))
     -- the last table counts, here one without rows; the lists are numbered from 0, whatever their child IDs
-    ∷ (codes (row (0x10 ∷ 0x00 ∷ list10 [])), given [])
-    ∷ (codes (0x1e ∷ 0x02 ∷ 0x28 ∷ 0x02 ∷ row []), given (codeNone ∷ []))
-    ∷ (codes (0x1e ∷ 0x02 ∷ 0x28 ∷ 0x02 ∷ row (list10 [])), given (1 ∷ []))
-    -- bit 9 of an RLOC16 is no part of the child ID
-    ∷ (codes (row (0x1e ∷ 0x02 ∷ 0x2a ∷ 0x01 ∷ [])), given (0 ∷ []))
+    ∷ (codes (mac10 (row (0x10 ∷ 0x00 ∷ list10 []))), given [])
+    ∷ (codes (mac10 (0x1e ∷ 0x02 ∷ 0x28 ∷ 0x02 ∷ row [])), given (codeNone ∷ []))
+    ∷ (codes (mac10 (0x1e ∷ 0x02 ∷ 0x28 ∷ 0x02 ∷ row (list10 []))), given (1 ∷ []))
+    -- bit 9 of an RLOC16 is no part of the child ID, nor of the parent, in a list and in the MAC Address
+    ∷ (codes (mac10 (row (0x1e ∷ 0x02 ∷ 0x2a ∷ 0x01 ∷ []))), given (0 ∷ []))
+    ∷ (codes (0x01 ∷ 0x02 ∷ 0x2a ∷ 0x00 ∷ list10 (row [])), given (0 ∷ []))
+    -- document 02, Two: a list of another parent does not count, and has its number all the same; with it alone the row has none
+    ∷ (codes (mac10 (list11 (list10 (row [])))), given (1 ∷ []))
+    ∷ (codes (mac10 (list11 (row []))), given (codeNone ∷ []))
+    -- with no MAC Address every row is unclear, also one that no list has; the last MAC Address counts
+    ∷ (codes (row []), given (codeUnclear ∷ []))
+    ∷ (codes (list10 (row [])), given (codeUnclear ∷ []))
+    ∷ (codes (mac10 (list11 (row (0x01 ∷ 0x02 ∷ 0x2c ∷ 0x00 ∷ [])))), given (0 ∷ []))
     ∷ []
 
 pub worked : Every (λ (l : Line). l .0 ≡ l .1) lines
-unfolding codes paired pairings pairing judged occurs placeOf rowIds listIds addressLists allOf childRows listed be beFrom lastOf checked decoding entryValue
+unfolding codes paired pairings pairing judged counts counting numberOf occurs rowIds listRlocs ownMac addressLists allOf childRows listed be beFrom lastOf checked decoding entryValue
     valueOf keepsRule framed limited framing frames step first valued
-worked = (refl, (refl, (refl, (refl, (refl, (refl, (refl, tt)))))))
+worked = (refl, (refl, (refl, (refl, (refl, (refl, (refl, (refl, (refl, (refl, (refl, (refl, (refl, tt)))))))))))))
 
 -- and no room for the one answer
 pub no-room : emit (codes (row [])) [] ≡ output (refused 11 0 0) []
-unfolding emit codes paired pairings pairing judged occurs placeOf rowIds listIds addressLists allOf childRows listed be beFrom lastOf checked decoding
+unfolding emit codes paired pairings pairing judged counts counting numberOf occurs rowIds listRlocs ownMac addressLists allOf childRows listed be beFrom lastOf checked decoding
     entryValue valueOf keepsRule framed limited framing frames step first valued
 no-room = refl

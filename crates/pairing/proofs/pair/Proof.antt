@@ -32,16 +32,19 @@ returns-2 c =
     let table = t .last-value .ensures in
     emit-no-room _ _ _ (codes-given _ _ told _ table) (rw (codes-many _ _ told _ table) (omega (arith, c .if1 .taken)))
 
+own-mac-requires : tie.Need-own-mac-requires
+own-mac-requires c κs = search needs
+
 count-rows-requires : tie.Need-count-rows-requires
 count-rows-requires c κs =
-    let t = c .before in
+    let t = c .before .before in
     let e = t .before in
     let told = sym (ap countedAnswer (e .enum-told .given .1)) ∙ e .before .before .check-values .ensures in
     short-table _ _ told _ (t .last-value .ensures)
 
 count-lists-requires : tie.Need-count-lists-requires
 count-lists-requires c κs =
-    let t = c .before .before in
+    let t = c .before .before .before in
     let e = t .before in
     let told = sym (ap countedAnswer (e .enum-told .given .1)) ∙ e .before .before .check-values .ensures in
     short-payload _ _ told
@@ -57,13 +60,14 @@ returns-3 c =
     let w = c .before .before in
     let lists = w .before .before in
     let rows = lists .before in
-    let room = rows .before in
+    let own = rows .before in
+    let room = own .before in
     let t = room .before in
     let e = t .before in
     let told = sym (ap countedAnswer (e .enum-told .given .1)) ∙ e .before .before .check-values .ensures in
     let k = lists .count-lists .ensures in
-    let are = codes-are _ _ told _ (t .last-value .ensures) _ _ _ (rows .count-rows .ensures) (k .0) (k .1) in
-    let many = codes-length _ _ _ _ in
+    let are = codes-are _ _ told _ (t .last-value .ensures) _ (own .own-mac .ensures) _ _ _ (rows .count-rows .ensures) (k .0) (k .1) in
+    let many = codes-length _ _ _ _ _ in
     emit-done _ _ _ are _ _ (sym many) (w .write-codes .ensures) (rw many (omega (arith, room .if1 .left)))
 
 pub pair-spec : {M : Type 1} → statement M
@@ -76,6 +80,7 @@ pair-spec =
     enum-told
     last-value-requires
     returns-2
+    own-mac-requires
     count-rows-requires
     count-lists-requires
     write-codes-requires

@@ -40,45 +40,49 @@ count-rows-requires c κs =
     let told = sym (ap countedAnswer (e .enum-told .given .1)) ∙ e .before .before .check-values .ensures in
     short-table _ _ told _ (t .last-value .ensures)
 
+own-mac-requires : tie.Need-own-mac-requires
+own-mac-requires c κs = search needs
+
 count-lists-requires : tie.Need-count-lists-requires
 count-lists-requires c κs =
-    let t = c .before .before .before in
+    let t = c .before .before .before .before in
     let e = t .before in
     let told = sym (ap countedAnswer (e .enum-told .given .1)) ∙ e .before .before .check-values .ensures in
     short-payload _ _ told
 
-mul-judge : tie.Need-mul-judge
-mul-judge c = search needs
+mul-judge-under : tie.Need-mul-judge-under
+mul-judge-under c = search needs
 
-array-read-judge : tie.Need-array-read-judge
-array-read-judge c = search needs
+array-read-judge-under : tie.Need-array-read-judge-under
+array-read-judge-under c = search needs
 
-mul-judge-2 : tie.Need-mul-judge-2
-mul-judge-2 c = search needs
+mul-judge-under-2 : tie.Need-mul-judge-under-2
+mul-judge-under-2 c = search needs
 
-element-copy-out-judge : tie.Need-element-copy-out-judge
-element-copy-out-judge c = search needs
+element-copy-out-judge-under : tie.Need-element-copy-out-judge-under
+element-copy-out-judge-under c = search needs
 
-mul-judge-3 : tie.Need-mul-judge-3
-mul-judge-3 c = search needs
+mul-judge-under-3 : tie.Need-mul-judge-under-3
+mul-judge-under-3 c = search needs
 
-element-copy-out-judge-2 : tie.Need-element-copy-out-judge-2
-element-copy-out-judge-2 c = search needs
+element-copy-out-judge-under-2 : tie.Need-element-copy-out-judge-under-2
+element-copy-out-judge-under-2 c = search needs
 
-judge-requires : tie.Need-judge-requires
-judge-requires c κs = search needs
+judge-under-requires : tie.Need-judge-under-requires
+judge-under-requires c κs = search needs
 
 returns-3 : tie.Need-returns-3
 returns-3 c =
     let lists = c .before .before .before in
-    let rows = lists .before in
+    let own = lists .before in
+    let rows = own .before in
     let id = rows .before in
     let inside = id .before in
     let t = inside .before in
     let e = t .before in
     let told = sym (ap countedAnswer (e .enum-told .given .1)) ∙ e .before .before .check-values .ensures in
     let k = lists .count-lists .ensures in
-    row-answered _ _ told _ (t .last-value .ensures) _ _ _ (rows .count-rows .ensures) (k .0) (k .1) _ _ (omega (arith, inside .if1 .left)) (id .row-id .ensures .0) _ (c .judge .ensures)
+    row-answered _ _ told _ (t .last-value .ensures) _ (own .own-mac .ensures) _ _ _ (rows .count-rows .ensures) (k .0) (k .1) _ _ (omega (arith, inside .if1 .left)) (id .row-id .ensures .0) _ (c .judge-under .ensures)
 
 pub pair-row-spec : {M : Type 1} → statement M
 pair-row-spec =
@@ -92,12 +96,13 @@ pair-row-spec =
     returns-2
     row-id-requires
     count-rows-requires
+    own-mac-requires
     count-lists-requires
-    mul-judge
-    array-read-judge
-    mul-judge-2
-    element-copy-out-judge
-    mul-judge-3
-    element-copy-out-judge-2
-    judge-requires
+    mul-judge-under
+    array-read-judge-under
+    mul-judge-under-2
+    element-copy-out-judge-under
+    mul-judge-under-3
+    element-copy-out-judge-under-2
+    judge-under-requires
     returns-3)

@@ -8,18 +8,18 @@ use borrow.Author.Needs.{needs}
 use Rattle.refusal.specs.Output.{put}
 use Rattle.laws.proofs.Puts.{put-none}
 use Rattle.pair_rule.specs.Codes.{codeOf}
-use Rattle.pairing.specs.Loops.{rowsOf, codesBy}
+use Rattle.pairing.specs.Loops.{ownAnswer, rowsOf, codesBy}
 use Rattle.pairing.proofs.Ids.{codes-turn, codes-end}
 use Rattle.pairing.proofs.write_codes.Statement.{statement}
 use Rattle.pairing.proofs.write_codes.Tie as tie
 
 abbrev Inv-loop : tie.InvT-loop
-Inv-loop table out₀ rows lists n k₀ out k =
+Inv-loop table own out₀ rows lists n k₀ out k =
     (n ≡ length table / 3) × (k ≤ n) × (n ≤ length out) × (length out ≡ length out₀)
-    × (put out k (drop k (codesBy rows (lists .count) (lists .place) (rowsOf table))) ≡ put out₀ 0 (codesBy rows (lists .count) (lists .place) (rowsOf table)))
+    × (put out k (drop k (codesBy (ownAnswer own) rows (lists .count) (lists .place) (rowsOf table))) ≡ put out₀ 0 (codesBy (ownAnswer own) rows (lists .count) (lists .place) (rowsOf table)))
 
 abbrev μ-loop : tie.MeasureT-loop
-μ-loop table out₀ rows lists n k₀ out k = n - k
+μ-loop table own out₀ rows lists n k₀ out k = n - k
 
 loop-holds : tie.Need-loop-holds Inv-loop μ-loop
 loop-holds c = let p = c .before .before .pre in (refl, search needs, p, refl, refl)
@@ -27,26 +27,26 @@ loop-holds c = let p = c .before .before .pre in (refl, search needs, p, refl, r
 row-id-requires : tie.Need-row-id-requires Inv-loop μ-loop
 row-id-requires c κs = search needs
 
-mul-judge : tie.Need-mul-judge Inv-loop μ-loop
-mul-judge c = omega (arith, c .row-id .ensures .1)
+mul-judge-under : tie.Need-mul-judge-under Inv-loop μ-loop
+mul-judge-under c = omega (arith, c .row-id .ensures .1)
 
-array-read-judge : tie.Need-array-read-judge Inv-loop μ-loop
-array-read-judge c = omega (arith, c .row-id .ensures .1)
+array-read-judge-under : tie.Need-array-read-judge-under Inv-loop μ-loop
+array-read-judge-under c = omega (arith, c .row-id .ensures .1)
 
-mul-judge-2 : tie.Need-mul-judge-2 Inv-loop μ-loop
-mul-judge-2 c = omega (arith, c .row-id .ensures .1)
+mul-judge-under-2 : tie.Need-mul-judge-under-2 Inv-loop μ-loop
+mul-judge-under-2 c = omega (arith, c .row-id .ensures .1)
 
-element-copy-out-judge : tie.Need-element-copy-out-judge Inv-loop μ-loop
-element-copy-out-judge c = omega (arith, c .row-id .ensures .1)
+element-copy-out-judge-under : tie.Need-element-copy-out-judge-under Inv-loop μ-loop
+element-copy-out-judge-under c = omega (arith, c .row-id .ensures .1)
 
-mul-judge-3 : tie.Need-mul-judge-3 Inv-loop μ-loop
-mul-judge-3 c = omega (arith, c .before .row-id .ensures .1)
+mul-judge-under-3 : tie.Need-mul-judge-under-3 Inv-loop μ-loop
+mul-judge-under-3 c = omega (arith, c .before .row-id .ensures .1)
 
-element-copy-out-judge-2 : tie.Need-element-copy-out-judge-2 Inv-loop μ-loop
-element-copy-out-judge-2 c = omega (arith, c .before .row-id .ensures .1)
+element-copy-out-judge-under-2 : tie.Need-element-copy-out-judge-under-2 Inv-loop μ-loop
+element-copy-out-judge-under-2 c = omega (arith, c .before .row-id .ensures .1)
 
-judge-requires : tie.Need-judge-requires Inv-loop μ-loop
-judge-requires c κs = search needs
+judge-under-requires : tie.Need-judge-under-requires Inv-loop μ-loop
+judge-under-requires c κs = search needs
 
 code-requires : tie.Need-code-requires Inv-loop μ-loop
 code-requires c κs = search needs
@@ -69,12 +69,12 @@ loop-again c =
     let i = j .before .before .before in
     let l = i .before .before .loop in
     let t = rw (l .inv .0) at (i .before .loop-test .taken) in
-    let made = c .code .ensures ∙ ap codeOf (j .judge .ensures) in (
+    let made = c .code .ensures ∙ ap codeOf (j .judge-under .ensures) in (
       l .inv .0,
       omega arith,
       simp length-set (l .inv .2),
       simp length-set (l .inv .3),
-      codes-turn _ _ _ _ _ _ _ _ t (i .row-id .ensures .0) made ∙ l .inv .4,
+      codes-turn _ _ _ _ _ _ _ _ _ t (i .row-id .ensures .0) made ∙ l .inv .4,
     )
 
 same-length : tie.Need-same-length Inv-loop μ-loop
@@ -83,7 +83,7 @@ same-length c = c .before .loop .inv .3
 returns : tie.Need-returns Inv-loop μ-loop
 returns c =
     let l = c .before .loop in
-    sym (put-none _ _) ∙ ap (put _ _) (sym (codes-end _ _ _ _ _ (rw (l .inv .0) at (c .loop-test .left)))) ∙ l .inv .4
+    sym (put-none _ _) ∙ ap (put _ _) (sym (codes-end _ _ _ _ _ _ (rw (l .inv .0) at (c .loop-test .left)))) ∙ l .inv .4
 
 pub write-codes-spec : {M : Type 1} → statement M
 write-codes-spec =
@@ -93,13 +93,13 @@ write-codes-spec =
     μ-loop
     loop-holds
     row-id-requires
-    mul-judge
-    array-read-judge
-    mul-judge-2
-    element-copy-out-judge
-    mul-judge-3
-    element-copy-out-judge-2
-    judge-requires
+    mul-judge-under
+    array-read-judge-under
+    mul-judge-under-2
+    element-copy-out-judge-under
+    mul-judge-under-3
+    element-copy-out-judge-under-2
+    judge-under-requires
     code-requires
     mul-out
     slice-write-out

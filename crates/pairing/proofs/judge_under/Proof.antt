@@ -1,0 +1,27 @@
+-- `pairing::judge_under` meets its contract.
+-- Assumes nothing.
+use mathlib.Core.Path.{_∙_}
+use Rattle.pairing.specs.Loops.{under}
+use borrow.Author.Needs.{needs}
+use Rattle.pairing.proofs.judge_under.Statement.{statement}
+use Rattle.pairing.proofs.judge_under.Tie as tie
+
+enum-told : tie.Need-enum-told
+enum-told c = search needs
+
+judge-requires : tie.Need-judge-requires
+judge-requires c κs = search needs
+
+enum-told-2 : tie.Need-enum-told-2
+enum-told-2 c = search needs
+
+returns : tie.Need-returns
+unfolding under
+returns c = c .judge .ensures ∙ rw (c .before .enum-told .given .1)
+
+returns-2 : tie.Need-returns-2
+unfolding under
+returns-2 c = rw (c .enum-told2 .given .1)
+
+pub judge-under-spec : {M : Type 1} → statement M
+judge-under-spec = tie.close (tie.spec enum-told judge-requires enum-told-2 returns returns-2)
