@@ -63,25 +63,25 @@ pub placing-start : (all : List ℕ) → Placing (replicate 512 0) all all 0
 placing-start all = record { long = refl; is = λ i h. rw (getD-replicate {A = ℕ} 512 i 0 0 h) }
 
 module _ (table all l : List ℕ) (n x : ℕ) (rest : List ℕ) (is : l ≡ x ∷ rest) (h : x < 512) where
-  pub counting-more : Counting table all l n → Counting (set table x (getD table x 0 + 1)) all rest (n + 1)
-  counting-more g =
+  pub counting-more : (k : ℕ) → k ≡ n + 1 → Counting table all l n → Counting (set table x (getD table x 0 + 1)) all rest k
+  counting-more m e g =
       let same = getD-set-same table x (getD table x 0 + 1) 0 (rw (g .long) h) in
       record {
         long = length-set table x (getD table x 0 + 1) ∙ g .long;
         low = λ i k.
             by-test (eqb i x)
-            (λ e. let q = eqb-true i x e in rw (q, same) (omega (arith, g .low x h)))
-            (λ e. rw (getD-set-other table x i (getD table x 0 + 1) 0 (eqb-false i x e)) (omega (arith, g .low i k)));
+            (λ t. let q = eqb-true i x t in rw (q, same) (omega (arith, e, g .low x h)))
+            (λ t. rw (getD-set-other table x i (getD table x 0 + 1) 0 (eqb-false i x t)) (omega (arith, e, g .low i k)));
         is = λ i k.
             by-test (eqb i x)
-            (λ e. let q = eqb-true i x e in rw (q, same) (omega (arith, g .is x h, occurs-hit x l rest is)))
-            (λ e.
-            rw (getD-set-other table x i (getD table x 0 + 1) 0 (eqb-false i x e))
-            (omega (arith, g .is i k, occurs-miss x l rest is i (eqb-false i x e))));
+            (λ t. let q = eqb-true i x t in rw (q, same) (omega (arith, g .is x h, occurs-hit x l rest is)))
+            (λ t.
+            rw (getD-set-other table x i (getD table x 0 + 1) 0 (eqb-false i x t))
+            (omega (arith, g .is i k, occurs-miss x l rest is i (eqb-false i x t))));
       }
 
-  pub placing-more : Placing table all l n → Placing (set table x n) all rest (n + 1)
-  placing-more g = record {
+  pub placing-more : (p k : ℕ) → p ≡ n → k ≡ n + 1 → Placing table all l n → Placing (set table x p) all rest k
+  placing-more p m d e g = rw (d, e) (record {
     long = length-set table x n ∙ g .long;
     is = λ i k.
         by-test (eqb i x)
@@ -90,21 +90,21 @@ module _ (table all l : List ℕ) (n x : ℕ) (rest : List ℕ) (is : l ≡ x �
         rw (q, getD-set-same table x n 0 (rw (g .long) h)) (sym (place-hit x l rest is (getD table x 0) n) ∙ g .is x h))
         (λ e.
         rw (getD-set-other table x i n 0 (eqb-false i x e)) (sym (place-miss x l rest is i (getD table i 0) n (eqb-false i x e)) ∙ g .is i k));
-  }
+  })
 
 -- one that no child ID is
 module _ (table all l : List ℕ) (n : ℕ) (rest : List ℕ) (is : l ≡ 512 ∷ rest) where
-  pub counting-other : Counting table all l n → Counting table all rest (n + 1)
-  counting-other g = record {
+  pub counting-other : (k : ℕ) → k ≡ n + 1 → Counting table all l n → Counting table all rest k
+  counting-other m e g = record {
     long = g .long;
-    low = λ i k. omega (arith, g .low i k);
+    low = λ i k. omega (arith, e, g .low i k);
     is = λ i k. omega (arith, g .is i k, occurs-miss 512 l rest is i (λ e. omega arith));
   }
 
-  pub placing-other : Placing table all l n → Placing table all rest (n + 1)
-  placing-other g = record {
+  pub placing-other : (k : ℕ) → k ≡ n + 1 → Placing table all l n → Placing table all rest k
+  placing-other m e g = record {
     long = g .long;
-    is = λ i k. sym (place-miss 512 l rest is i (getD table i 0) n (λ e. omega arith)) ∙ g .is i k;
+    is = λ i k. rw e (sym (place-miss 512 l rest is i (getD table i 0) n (λ z. omega arith)) ∙ g .is i k);
   }
 
 module _ (table all l : List ℕ) (n : ℕ) (none : l ≡ []) where
@@ -114,12 +114,12 @@ module _ (table all l : List ℕ) (n : ℕ) (none : l ≡ []) where
   pub placing-end : Placing table all l n → Places table all
   placing-end g = record { is = λ i h. sym (ap (lastPlace i (getD table i 0) n) none ∙ place-none i (getD table i 0) n) ∙ g .is i h }
 
--- the same rest and number, seen otherwise
-pub counting-same : (table all l m : List ℕ) (n k : ℕ) → l ≡ m → n ≡ k → Counting table all l n → Counting table all m k
-counting-same table all l m n k e f g = rw (e, f) at g
+-- the same rest, seen otherwise
+pub counting-same : (table all l m : List ℕ) (n : ℕ) → l ≡ m → Counting table all l n → Counting table all m n
+counting-same table all l m n e g = rw e at g
 
-pub placing-same : (table all l m : List ℕ) (n k : ℕ) → l ≡ m → n ≡ k → Placing table all l n → Placing table all m k
-placing-same table all l m n k e f g = rw (e, f) at g
+pub placing-same : (table all l m : List ℕ) (n : ℕ) → l ≡ m → Placing table all l n → Placing table all m n
+placing-same table all l m n e g = rw e at g
 
 -- ---- what the counts and the place say of a row
 

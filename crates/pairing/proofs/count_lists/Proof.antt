@@ -1,6 +1,6 @@
 -- `pairing::count_lists` meets its contract. The invariant: counted + others lists are numbered, the entries from at on are still to be.
 -- Assumes nothing.
-use mathlib.Core.Path.{refl, sym, ap, _∙_}
+use mathlib.Core.Path.{sym, ap, _∙_}
 use Prim.Native.Nat.{_+_, _-_, _%_, _≤_}
 use native.Mathlib.Omega.{arith}
 use native.Mathlib.Nat.{add-sub-cancel-left}
@@ -26,8 +26,8 @@ abbrev μ-loop : tie.MeasureT-loop
 
 loop-holds : tie.Need-loop-holds Inv-loop μ-loop
 loop-holds c = (
-  placing-same _ _ _ _ _ _ (ap (keysOf _) (lists-start _)) refl (placing-start _),
-  counting-same _ _ _ _ _ _ (ap (keysOf _) (lists-start _)) refl (counting-start _),
+  placing-same _ _ _ _ _ (ap (keysOf _) (lists-start _)) (placing-start _),
+  counting-same _ _ _ _ _ (ap (keysOf _) (lists-start _)) (counting-start _),
   c .before .pre,
   search needs,
   search needs,
@@ -135,8 +135,8 @@ loop-again c =
     let is = simp add-sub-cancel-left at (r .list-rloc16 .ensures) in
     let hit = lists-hit _ _ _ (turn-entries _ _ _ (f .frame-at .ensures) _ _ _ (t .ty .given .1)) (i .if1 .taken) _ is in
     let key = keys-own _ _ _ _ hit (sym (o .is-own .ensures) ∙ c .if2 .taken) in (
-      placing-same _ _ _ _ _ _ refl (omega arith) (placing-more _ _ _ _ _ _ key (omega arith) (l .inv .0)),
-      counting-same _ _ _ _ _ _ refl (omega arith) (counting-more _ _ _ _ _ _ key (omega arith) (l .inv .1)),
+      placing-more _ _ _ _ _ _ key (omega arith) _ _ (omega arith) (omega arith) (l .inv .0),
+      counting-more _ _ _ _ _ _ key (omega arith) _ (omega arith) (l .inv .1),
       l .inv .2,
       inside .1,
       omega arith,
@@ -162,8 +162,8 @@ loop-again-2 c =
     let is = simp add-sub-cancel-left at (r .list-rloc16 .ensures) in
     let hit = lists-hit _ _ _ (turn-entries _ _ _ (f .frame-at .ensures) _ _ _ (t .ty .given .1)) (i .if1 .taken) _ is in
     let key = keys-other _ _ _ _ hit (sym (o .is-own .ensures) ∙ c .if2 .left) in (
-      placing-same _ _ _ _ _ _ refl (omega arith) (placing-other _ _ _ _ _ key (l .inv .0)),
-      counting-same _ _ _ _ _ _ refl (omega arith) (counting-other _ _ _ _ _ key (l .inv .1)),
+      placing-other _ _ _ _ _ key _ (omega arith) (l .inv .0),
+      counting-other _ _ _ _ _ key _ (omega arith) (l .inv .1),
       l .inv .2,
       inside .1,
       omega arith,
@@ -181,8 +181,8 @@ loop-again-3 c =
     let l = f .before .loop in
     let inside = turn-inside _ _ _ (f .frame-at .ensures) _ _ _ (t .ty .given .1) in
     let miss = lists-miss _ _ _ (turn-entries _ _ _ (f .frame-at .ensures) _ _ _ (t .ty .given .1)) (c .if1 .left) in (
-      placing-same _ _ _ _ _ _ (ap (keysOf _) miss) refl (l .inv .0),
-      counting-same _ _ _ _ _ _ (ap (keysOf _) miss) refl (l .inv .1),
+      placing-same _ _ _ _ _ (ap (keysOf _) miss) (l .inv .0),
+      counting-same _ _ _ _ _ (ap (keysOf _) miss) (l .inv .1),
       l .inv .2,
       inside .1,
       omega arith,

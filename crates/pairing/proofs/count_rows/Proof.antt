@@ -51,7 +51,7 @@ loop-again c =
     let l = c .before .before .loop in
     let t = rw (l .inv .1) at (c .before .loop-test .taken) in
     let id = c .row-id .ensures in
-    (l .inv .0, l .inv .1, omega arith, counting-more _ _ _ _ _ _ (rows-next _ _ _ t (id .0)) (id .1) (l .inv .3))
+    (l .inv .0, l .inv .1, omega arith, counting-more _ _ _ _ _ _ (rows-next _ _ _ t (id .0)) (id .1) _ refl (l .inv .3))
 
 returns : tie.Need-returns Inv-loop μ-loop
 returns c =
