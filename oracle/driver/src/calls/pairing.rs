@@ -1,4 +1,4 @@
-//! Child pairing, which the Rust does not have: document 01's answers over the Rust's record. `pair`.
+//! Child pairing, which the Rust does not have: the answers of documents 01 and 02 over the Rust's record. `pair`.
 
 use meshcop::meshcop::diag::{ChildIpv6AddrInfo, ChildTableEntry};
 
@@ -15,14 +15,25 @@ pub fn pair(payload: &[u8], cap: u64) -> Answer {
     sizes::test_room(rows.len(), cap)?;
     let mut words = rows.len().to_string();
     for row in &rows {
-        words += &format!(" {}", partner_word(row.child_id, &rows, &lists));
+        let word = match data.mac_addr {
+            Some(mac_address) => partner_word(row.child_id, &rows, &lists, parent_of(mac_address)),
+            None => "unclear".to_string(),
+        };
+        words += &format!(" {word}");
     }
     value(words)
 }
 
-fn partner_word(child_id: u16, rows: &[ChildTableEntry], lists: &[ChildIpv6AddrInfo]) -> String {
+/// The top six bits of an RLOC16 name the parent router.
+fn parent_of(rloc16: u16) -> u16 {
+    rloc16 / 1024
+}
+
+/// Only lists of this parent count, but a pair's number is that among all.
+fn partner_word(child_id: u16, rows: &[ChildTableEntry], lists: &[ChildIpv6AddrInfo], parent: u16) -> String {
     let in_table = rows.iter().filter(|row| row.child_id == child_id).count();
-    let in_lists: Vec<usize> = (0..lists.len()).filter(|number| lists[*number].child_id == child_id).collect();
+    let counts = |list: &ChildIpv6AddrInfo| list.child_id == child_id && parent_of(list.rloc16) == parent;
+    let in_lists: Vec<usize> = (0..lists.len()).filter(|number| counts(&lists[*number])).collect();
     match (in_table, &in_lists[..]) {
         (1, [list]) => format!("p{list}"),
         (1, []) => "none".to_string(),

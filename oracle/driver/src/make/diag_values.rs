@@ -9,6 +9,7 @@ use crate::rules::NETWORK_DATA;
 /// The types that are known.
 pub const TYPES: &[u8] = &[0, 1, 2, 3, 4, 5, 6, 7, 8, 9, 14, 15, 16, 17, 18, 23, 30];
 
+pub const MAC_ADDRESS: u8 = 1;
 pub const CHILD_TABLE: u8 = 16;
 pub const CHILD_ADDRESSES: u8 = 30;
 
@@ -27,7 +28,7 @@ enum Rule {
 
 const fn rule_of(ty: u8) -> Rule {
     match ty {
-        1 | 15 => Rule::Length(2),
+        MAC_ADDRESS | 15 => Rule::Length(2),
         2 | 14 => Rule::Length(1),
         3 => Rule::Length(4),
         4 => Rule::AtLeast(7),
