@@ -1,13 +1,13 @@
 -- Worked lines of pairing, computed from the definitions.
 -- Assumes nothing.
 use mathlib.Core.Path.{_≡_, refl}
-use mathlib.Core.List.{List, [], _∷_}
+use mathlib.Core.List.{List, [], _∷_, map}
 use Prim.Native.Nat.{ℕ}
 use Rattle.refusal.specs.Answer.{Answer, given, refused}
 use Rattle.refusal.specs.Every.{Every}
 use Rattle.refusal.specs.Output.{output, emit}
 use Rattle.wire.specs.Be.{beFrom, be}
-use Rattle.tlv.specs.Entries.{valued, first, step, frames, framing}
+use Rattle.tlv.specs.Entries.{Entry, valued, first, step, frames, framing}
 use Rattle.tlv.specs.Limits.{limited, framed}
 use Rattle.tlv_last.specs.Last.{lastOf}
 use Rattle.diag_rules.specs.Rule.{keepsRule, valueOf}
@@ -15,8 +15,10 @@ use Rattle.diag_rows.specs.Rows.{listed, childRows}
 use Rattle.diag_entries.specs.Parts.{allOf}
 use Rattle.diag_entries.specs.Checked.{entryValue, decoding, checked}
 use Rattle.diag_entries.specs.Lists.{addressLists}
-use Rattle.pair_rule.specs.Pairing.{occurs, counts, counting, numberOf, judged, pairing}
+use Rattle.pair_rule.specs.Pairing.{occurs, childOf, counts, counting, numberOf, judged, pairing}
 use Rattle.pair_rule.specs.Codes.{codeNone, codeUnclear}
+use Rattle.pair_rule.specs.declared.Pairing.the-variants as p
+use Rattle.pair_rule.proofs.Parents.{placeOf, rule01}
 use Rattle.pairing.specs.Payload.{rowIds, listRlocs, ownMac, pairings, paired, codes}
 
 -- an answer, and what it must be
@@ -69,3 +71,11 @@ pub no-room : emit (codes (row [])) [] ≡ output (refused 11 0 0) []
 unfolding emit codes paired pairings pairing judged counts counting numberOf occurs rowIds listRlocs ownMac addressLists allOf childRows listed be beFrom lastOf checked decoding
     entryValue valueOf keepsRule framed limited framing frames step first valued
 no-room = refl
+
+-- what document 01's rule said where now there is none: the row and the list of the child that had moved were joined
+abbrev movedChild : List Entry
+movedChild = framing (mac10 (list11 (row []))) .entries
+
+pub joined-before : rule01 (rowIds movedChild) (map childOf (listRlocs movedChild)) 1 ≡ p.Paired 0
+unfolding judged occurs placeOf rowIds listRlocs addressLists allOf childRows listed be beFrom lastOf framing frames step first valued
+joined-before = refl
