@@ -1,13 +1,13 @@
 -- What the answers for the rows of a payload say, for whoever reads them, and what they depend on. The entries es are those of a payload that decodes.
 -- Assumes nothing.
 use mathlib.Core.Path.{_≡_, refl, sym, ap, ap₂, _∙_}
-use mathlib.Core.Bool.{Bool, false}
-use mathlib.Core.List.{List, [], _∷_, _++_, map, map-map}
-use Prim.Native.Nat.{ℕ, _+_}
+use mathlib.Core.Bool.{Bool}
+use mathlib.Core.List.{List, [], _∷_, _++_, map, map-map, map-append, map-congr-left}
+use Prim.Native.Nat.{ℕ}
 use native.Mathlib.Omega.{arith}
 use lib.Dec.{eqb}
 use lib.ListN.{length, length-map}
-use borrow.Author.Tests.{eq-eqb, ne-eqb}
+use borrow.Author.Tests.{ne-eqb}
 use Rattle.refusal.specs.Answer.{pick, Answer, given, absent, refused, onGiven}
 use Rattle.refusal.specs.Every.{Every}
 use Rattle.laws.proofs.Tests.{by-test}
@@ -18,11 +18,12 @@ use Rattle.diag_rows.specs.Rows.{listed, childRows, addressListOf}
 use Rattle.diag_entries.specs.Parts.{last, allOf}
 use Rattle.diag_entries.specs.Checked.{checked}
 use Rattle.diag_entries.specs.Lists.{AddressList, addressLists}
-use Rattle.pair_rule.specs.Pairing.{occurs, parentOf, childOf, counts, counting, pairing}
+use Rattle.diag_entries.proofs.Lasts.{all-hit}
+use Rattle.pair_rule.specs.Pairing.{parentOf, childOf, pairing}
 use Rattle.pairing.specs.Payload.{rowIds, listRlocs, ownMac, pairings, paired, codes}
 use Rattle.pair_rule.specs.declared.Pairing.the-variants as p
 use Rattle.pairing.proofs.Ids.{rowId}
-use Rattle.pairing.proofs.Rowed.{nth-map, map-all, map-append}
+use Rattle.pairing.proofs.Rowed.{nth-map}
 use Rattle.pair_rule.proofs.Parents.{after, same-list, moved, rule01, no-mac, another-parent, as-before}
 use Rattle.pair_rule.proofs.Sense.{Pair, Alone, paired-is, none-is, is-unclear, occurs-twice}
 
@@ -127,7 +128,7 @@ paired-own es i k h =
 -- Without a MAC Address every answer is "unclear", also that of a row that no list has.
 pub no-mac-unclear : (es : List Entry) → last 1 es ≡ absent → pairings es ≡ map (λ (id : ℕ). p.Unclear) (rowIds es)
 unfolding pairings ownMac
-no-mac-unclear es h = rw h (map-all _ _ (rowIds es) (no-mac (rowIds es) (listRlocs es)))
+no-mac-unclear es h = rw h (map-congr-left {l = rowIds es} (λ id m. no-mac (rowIds es) (listRlocs es) id))
 
 -- A MAC Address that is not the last may be left out or put in.
 last-after : (ty : ℕ) (best other : Answer Entry) (b : List Entry) → (lastOf ty absent b ≡ absent → ⊥) → lastOf ty best b ≡ lastOf ty other b
@@ -154,10 +155,6 @@ unfolding allOf
 all-split ty [] b = refl
 all-split ty (x ∷ a) b = by-test (eqb (x .ty) ty) (λ t. rw t (ap (_∷_ x) (all-split ty a b))) (λ t. rw t (all-split ty a b))
 
-all-hit : (ty : ℕ) (e : Entry) (b : List Entry) → e .ty ≡ ty → allOf ty (e ∷ b) ≡ e ∷ allOf ty b
-unfolding allOf
-all-hit ty e b h = rw (eq-eqb _ _ h)
-
 with-it : (a b : List Entry) (e : Entry) → e .ty ≡ 30 → allOf 30 (a ++ e ∷ b) ≡ allOf 30 a ++ e ∷ allOf 30 b
 with-it a b e h = all-split 30 a (e ∷ b) ∙ ap (_++_ (allOf 30 a)) (all-hit 30 e b h)
 
@@ -172,7 +169,7 @@ moved-all : (own : Answer ℕ) (rows ids x y : List ℕ) (l n : ℕ) → (onGive
     → map (pairing own rows (x ++ l ∷ y)) ids ≡ map (moved n) (map (pairing own rows (x ++ y)) ids)
 moved-all own rows ids x y l n other many =
     rw (← many)
-    (map-all (pairing own rows (x ++ l ∷ y)) (λ (id : ℕ). moved (length x) (pairing own rows (x ++ y) id)) ids (λ id. another-parent own l other rows x y id)
+    (map-congr-left {l = ids} (λ id m. another-parent own l other rows x y id)
     ∙ sym (map-map (moved (length x)) (pairing own rows (x ++ y)) ids))
 
 pub another-parents-list : (a b : List Entry) (e : Entry) → e .ty ≡ 30 → (onGiven parentOf (ownMac (a ++ b)) ≡ given (parentOf (rlocOf e)) → ⊥)
@@ -205,5 +202,4 @@ pub as-01-gave : (es : List Entry) (mac : ℕ) → ownMac es ≡ given mac → E
 unfolding pairings
 as-01-gave es mac own all =
     rw (own, ← child-ids es)
-    (map-all (pairing (given mac) (rowIds es) (listRlocs es)) (rule01 (rowIds es) (map childOf (listRlocs es))) (rowIds es)
-    (λ id. as-before mac (rowIds es) (listRlocs es) id all))
+    (map-congr-left {l = rowIds es} (λ id m. as-before mac (rowIds es) (listRlocs es) id all))

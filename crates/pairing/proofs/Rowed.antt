@@ -1,7 +1,7 @@
 -- Lists that are made by a function, and rows of lists.
 -- Assumes nothing.
 use mathlib.Core.Path.{_≡_, refl, ap, _∙_}
-use mathlib.Core.List.{List, [], _∷_, _++_, map}
+use mathlib.Core.List.{List, [], _∷_, map}
 use Prim.Native.Nat.{ℕ, zero, suc, _≤_, _<_}
 use native.Mathlib.Omega.{arith}
 use lib.ListN.{length, getD, drop}
@@ -46,14 +46,6 @@ every-listed P f (suc n) h = (h 0, every-listed P (λ k. f (suc k)) n (λ k. h (
 pub map-same : {A : Type 0} (P : ℕ → Type 0) (f g : ℕ → A) (l : List ℕ) → ((x : ℕ) → P x → f x ≡ g x) → Every P l → map f l ≡ map g l
 map-same P f g [] h d = refl
 map-same P f g (x ∷ l) h d = ap (λ (y : _). y ∷ map f l) (h x (d .0)) ∙ ap (λ (m : List _). g x ∷ m) (map-same P f g l h (d .1))
-
-pub map-all : {A B : Type 0} (f g : A → B) (l : List A) → ((x : A) → f x ≡ g x) → map f l ≡ map g l
-map-all f g [] h = refl
-map-all f g (x ∷ l) h = ap (λ (y : _). y ∷ map f l) (h x) ∙ ap (λ (m : List _). g x ∷ m) (map-all f g l h)
-
-pub map-append : {A B : Type 0} (f : A → B) (l m : List A) → map f (l ++ m) ≡ map f l ++ map f m
-map-append f [] m = refl
-map-append f (x ∷ l) m = ap (λ (k : List _). f x ∷ k) (map-append f l m)
 
 -- ---- one row
 pub nth-in : {A : Type 0} (f : ℕ → A) (n k : ℕ) → k < n → nth (listed f n) k ≡ given (f k)

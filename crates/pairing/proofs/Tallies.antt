@@ -11,8 +11,8 @@ use lib.ListN.{length, getD, set, replicate, length-set, getD-replicate}
 use lib.Seq.{getD-set-same, getD-set-other}
 use borrow.Author.Tests.{eq-eqb, ne-eqb, eqb-true, eqb-false}
 use Rattle.laws.proofs.Tests.{by-test}
-use Rattle.refusal.specs.Answer.{pick, Answer, given, absent, refused}
-use Rattle.pair_rule.specs.Pairing.{occurs, childOf, counts, counting, numberOf, judged, pairing}
+use Rattle.refusal.specs.Answer.{Answer, given, absent, refused}
+use Rattle.pair_rule.specs.Pairing.{occurs, counts, counting, numberOf, judged, pairing}
 use Rattle.pair_rule.proofs.Parents.{placeOf}
 use Rattle.pairing.specs.Loops.{lastPlace, countsIn, under, keyOf, keysOf, Counts, Places}
 
