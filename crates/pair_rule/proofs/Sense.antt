@@ -121,14 +121,6 @@ module _ (rows lists : List ℕ) (id : ℕ) where
   none-is absent h = apart p.Unclear p.None (λ z. cc) h
   none-is (refused n q i) h = apart p.Unclear p.None (λ z. cc) h
 
--- ---- the order of the rows is nothing to it: only how often each ID stands among them
-pub rows-in-any-order : (own : Answer ℕ) (rows other lists : List ℕ) (id : ℕ) → occurs id rows ≡ occurs id other
-    → pairing own rows lists id ≡ pairing own other lists id
-unfolding pairing
-rows-in-any-order (given mac) rows other lists id e = rw e
-rows-in-any-order absent rows other lists id e = refl
-rows-in-any-order (refused n q i) rows other lists id e = refl
-
 -- ---- two places
 occurs-some : (x : ℕ) (ys : List ℕ) (i : ℕ) → nth ys i ≡ given x → 1 ≤ occurs x ys
 unfolding occurs nth

@@ -45,7 +45,7 @@ numberOf mac x (l ∷ ls) = pick (pick (counts mac l) (eqb (childOf l) x) false)
 unfoldable pub judged : (rows lists place : ℕ) → Pairing
 judged rows lists place = pick (eqb rows 1) (pick (eqb lists 1) (p.Paired place) (pick (eqb lists 0) p.None p.Unclear)) p.Unclear
 
--- of a row by its child ID, those of all rows, the RLOC16s of all lists, and the payload's own MAC Address value where it has one
+-- of a row by its child ID, those of all rows, the RLOC16s of all lists, and the payload's own MAC Address value where it has one (it is never refused)
 unfoldable pub pairing : (own : Answer ℕ) → (rows lists : List ℕ) → (id : ℕ) → Pairing
 pairing (given mac) rows lists id = judged (occurs id rows) (occurs id (counting mac lists)) (numberOf mac id lists)
 pairing absent rows lists id = p.Unclear

@@ -49,7 +49,7 @@ impl Pairing {
     }
 }
 
-// What is said of a row whose child ID stands so often in the table and among the lists, in the list of that number last.
+// What is said of a row whose child ID stands so often in the table and among the lists that count, the last of them the list of that number.
 pub fn judge(rows: u16, lists: u16, place: u16) -> Pairing
     ensures { λ r. ⌜ r ≡ judged rows lists place ⌝ }
 {

@@ -25,7 +25,7 @@ use Rattle.diag_rows.specs.declared.ChildTableEntry.{ChildTableEntry}
 use Rattle.diag_rows.specs.declared.ChildIpv6AddrInfo.{ChildIpv6AddrInfo}
 use Rattle.diag_rules.proofs.Kept.{value-cases}
 use Rattle.diag_entries.specs.Parts.{allOf}
-use Rattle.pairing.specs.Loops.{orZero, ownIn, countsIn, rowIdAt, rowsOf, listRlocOf, listsOf, keyOf, keysOf, codeBy, codesBy}
+use Rattle.pairing.specs.Loops.{orZero, ownIn, isOwn, rowIdAt, rowsOf, listRlocOf, listsOf, keyOf, keysOf, codeBy, codesBy}
 use Rattle.pairing.proofs.Rowed.{listed-length, listed-at, drop-map, nth-in, nth-out}
 
 -- ---- what `child_row` and `decode_child_ipv6_addresses` answered
@@ -136,10 +136,10 @@ module _ (own : Answer ℕ) (l : List ℕ) where
   keys-none h = rw h
 
   module _ (x : ℕ) (rest : List ℕ) (is : l ≡ x ∷ rest) where
-    pub keys-own : countsIn own x ≡ true → keysOf own l ≡ x % 512 ∷ keysOf own rest
+    pub keys-own : isOwn own x ≡ true → keysOf own l ≡ x % 512 ∷ keysOf own rest
     unfolding keysOf keyOf
     keys-own h = rw (is, h)
 
-    pub keys-other : countsIn own x ≡ false → keysOf own l ≡ 512 ∷ keysOf own rest
+    pub keys-other : isOwn own x ≡ false → keysOf own l ≡ 512 ∷ keysOf own rest
     unfolding keysOf keyOf
     keys-other h = rw (is, h)

@@ -1,16 +1,15 @@
--- What the answers for the rows of a payload say, for whoever reads them, and what they depend on. The entries es are those of a payload that decodes.
+-- What the answers for the rows of a payload say, for whoever reads them, and what they depend on. The entries es are those of a payload, whose places
+-- are nothing to the answers.
 -- Assumes nothing.
 use mathlib.Core.Path.{_≡_, refl, sym, ap, ap₂, _∙_}
 use mathlib.Core.Bool.{Bool}
 use mathlib.Core.List.{List, [], _∷_, _++_, map, map-map, map-append, map-congr-left}
 use Prim.Native.Nat.{ℕ}
 use native.Mathlib.Omega.{arith}
-use lib.Dec.{eqb}
 use lib.ListN.{length, length-map}
 use borrow.Author.Tests.{ne-eqb}
 use Rattle.refusal.specs.Answer.{pick, Answer, given, absent, refused, onGiven}
 use Rattle.refusal.specs.Every.{Every}
-use Rattle.laws.proofs.Tests.{by-test}
 use Rattle.tlv.specs.Entries.{Entry}
 use Rattle.tlv_last.specs.Last.{lastOf, valueOr}
 use Rattle.refusal.specs.Numbered.{nth}
@@ -18,14 +17,13 @@ use Rattle.diag_rows.specs.Rows.{listed, childRows, addressListOf}
 use Rattle.diag_entries.specs.Parts.{last, allOf}
 use Rattle.diag_entries.specs.Checked.{checked}
 use Rattle.diag_entries.specs.Lists.{AddressList, addressLists}
-use Rattle.diag_entries.proofs.Lasts.{all-hit}
-use Rattle.pair_rule.specs.Pairing.{parentOf, childOf, pairing}
+use Rattle.pair_rule.specs.Pairing.{occurs, parentOf, childOf, counting, numberOf, pairing}
 use Rattle.pairing.specs.Payload.{rowIds, listRlocs, ownMac, pairings, paired, codes}
 use Rattle.pair_rule.specs.declared.Pairing.the-variants as p
 use Rattle.pairing.proofs.Ids.{rowId}
 use Rattle.pairing.proofs.Rowed.{nth-map}
-use Rattle.pair_rule.proofs.Parents.{after, same-list, moved, rule01, no-mac, another-parent, as-before}
-use Rattle.pair_rule.proofs.Sense.{Pair, Alone, paired-is, none-is, is-unclear, occurs-twice}
+use Rattle.pair_rule.proofs.Parents.{moved, rule01, no-mac, another-parent, as-before}
+use Rattle.pair_rule.proofs.Sense.{Pair, Alone, is-paired, is-none, paired-is, none-is, is-unclear, occurs-twice}
 
 -- ---- one row
 module _ (es : List Entry) where
@@ -67,6 +65,17 @@ module _ (es : List Entry) where
       by-id absent e h = absurd (let z : _≡_ {A = ℕ} 0 1 = cc in omega arith)
       by-id (refused n q j) e h = absurd (let z : _≡_ {A = ℕ} 0 1 = cc in omega arith)
 
+  -- And where that is so, with a MAC Address, these are the answers.
+  module _ (i id mac : ℕ) (row : nth (rowIds es) i ≡ given id) (own : ownMac es ≡ given mac) (once : occurs id (rowIds es) ≡ 1) where
+    by-mac : nth (pairings es) i ≡ given (pairing (given mac) (rowIds es) (listRlocs es) id)
+    by-mac = by-its-id i ∙ ap (onGiven _) row ∙ ap (λ (o : Answer ℕ). given (pairing o (rowIds es) (listRlocs es) id)) own
+
+    pub once-paired : occurs id (counting mac (listRlocs es)) ≡ 1 → nth (pairings es) i ≡ given (p.Paired (numberOf mac id (listRlocs es)))
+    once-paired h = by-mac ∙ ap given (is-paired mac (rowIds es) (listRlocs es) id once h)
+
+    pub once-alone : occurs id (counting mac (listRlocs es)) ≡ 0 → nth (pairings es) i ≡ given p.None
+    once-alone h = by-mac ∙ ap given (is-none mac (rowIds es) (listRlocs es) id once h)
+
   -- There is an answer for each row, and none without a table.
   pub as-many : length (pairings es) ≡ length (rowIds es)
   unfolding pairings
@@ -82,15 +91,20 @@ module _ (es : List Entry) where
 abbrev bytesOf : Entry → List ℕ
 bytesOf e = e .value
 
+abbrev rlocIn : List ℕ → ℕ
+rlocIn v = addressListOf v .rloc16
+
+rlocs-are : (es : List Entry) → listRlocs es ≡ map rlocIn (map bytesOf (allOf 30 es))
+unfolding listRlocs addressLists
+rlocs-are es = map-map _ _ (allOf 30 es) ∙ sym (map-map _ _ (allOf 30 es))
+
 pub rows-and-lists : (es fs : List Entry) → ownMac es ≡ ownMac fs → valueOr (last 16 es) ≡ valueOr (last 16 fs)
     → map bytesOf (allOf 30 es) ≡ map bytesOf (allOf 30 fs) → pairings es ≡ pairings fs
-unfolding pairings rowIds listRlocs addressLists
+unfolding pairings rowIds
 rows-and-lists es fs own table lists =
-    let rlocs : (gs : List Entry) → listRlocs gs ≡ map (λ (v : List ℕ). addressListOf v .rloc16) (map bytesOf (allOf 30 gs))
-    = λ gs. map-map _ _ (allOf 30 gs) ∙ sym (map-map _ _ (allOf 30 gs)) in
     ap (λ (o : Answer ℕ). map (pairing o (rowIds es) (listRlocs es)) (rowIds es)) own
     ∙ ap₂ (λ (v : List ℕ) (l : List ℕ). map (pairing (ownMac fs) (map rowId (childRows v)) l) (map rowId (childRows v)))
-    table (rlocs es ∙ ap (map _) lists ∙ sym (rlocs fs))
+    table (rlocs-are es ∙ ap (map rlocIn) lists ∙ sym (rlocs-are fs))
 
 -- so for two payloads that decode
 pub same-answers : (s t : List ℕ) (es fs : List Entry) → checked s ≡ given es → checked t ≡ given fs → ownMac es ≡ ownMac fs
@@ -130,41 +144,9 @@ pub no-mac-unclear : (es : List Entry) → last 1 es ≡ absent → pairings es 
 unfolding pairings ownMac
 no-mac-unclear es h = rw h (map-congr-left {l = rowIds es} (λ id m. no-mac (rowIds es) (listRlocs es) id))
 
--- A MAC Address that is not the last may be left out or put in.
-last-after : (ty : ℕ) (best other : Answer Entry) (b : List Entry) → (lastOf ty absent b ≡ absent → ⊥) → lastOf ty best b ≡ lastOf ty other b
-unfolding lastOf
-last-after ty best other [] h = absurd (h refl)
-last-after ty best other (x ∷ b) h =
-    by-test (eqb (x .ty) ty) (λ t. rw t) (λ t. rw t (last-after ty best other b (rw t at h)))
-
-last-earlier : (ty : ℕ) (best : Answer Entry) (a b : List Entry) (e : Entry) → (last ty b ≡ absent → ⊥) → lastOf ty best (a ++ e ∷ b) ≡ lastOf ty best (a ++ b)
-unfolding lastOf
-last-earlier ty best [] b e h = last-after ty (pick (eqb (e .ty) ty) (given e) best) best b h
-last-earlier ty best (x ∷ a) b e h = last-earlier ty _ a b e h
-
-pub earlier-mac : (a b : List Entry) (e : Entry) → e .ty ≡ 1 → (last 1 b ≡ absent → ⊥) → pairings (a ++ e ∷ b) ≡ pairings (a ++ b)
-unfolding ownMac
-earlier-mac a b e h later =
-    rows-and-lists (a ++ e ∷ b) (a ++ b) (ap (onGiven _) (last-earlier 1 absent a b e later))
-    (ap valueOr (last-other 16 absent a b e (λ z. omega arith))) (ap (map bytesOf) (all-other 30 a b e (λ z. omega arith)))
-
--- A list of another parent, or any where there is no MAC Address, may be left out or put in: every row's answer is the same list, none or unclear, and
--- only the numbers of the lists after it change.
-all-split : (ty : ℕ) (a b : List Entry) → allOf ty (a ++ b) ≡ allOf ty a ++ allOf ty b
-unfolding allOf
-all-split ty [] b = refl
-all-split ty (x ∷ a) b = by-test (eqb (x .ty) ty) (λ t. rw t (ap (_∷_ x) (all-split ty a b))) (λ t. rw t (all-split ty a b))
-
-with-it : (a b : List Entry) (e : Entry) → e .ty ≡ 30 → allOf 30 (a ++ e ∷ b) ≡ allOf 30 a ++ e ∷ allOf 30 b
-with-it a b e h = all-split 30 a (e ∷ b) ∙ ap (_++_ (allOf 30 a)) (all-hit 30 e b h)
-
-abbrev rlocOf : Entry → ℕ
-rlocOf e = addressListOf (e .value) .rloc16
-
-rlocs-are : (es : List Entry) → listRlocs es ≡ map rlocOf (allOf 30 es)
-unfolding listRlocs addressLists
-rlocs-are es = map-map _ _ (allOf 30 es)
-
+-- A list of another parent, or any where there is no MAC Address, may be left out or put in: if two payloads have the same MAC Address, the same rows and
+-- the same lists but for one such, v, then every row has the same answer in both, and a pair names the same list (`same-list`), whose number is one more
+-- where it stands after v.
 moved-all : (own : Answer ℕ) (rows ids x y : List ℕ) (l n : ℕ) → (onGiven parentOf own ≡ given (parentOf l) → ⊥) → length x ≡ n
     → map (pairing own rows (x ++ l ∷ y)) ids ≡ map (moved n) (map (pairing own rows (x ++ y)) ids)
 moved-all own rows ids x y l n other many =
@@ -172,31 +154,28 @@ moved-all own rows ids x y l n other many =
     (map-congr-left {l = ids} (λ id m. another-parent own l other rows x y id)
     ∙ sym (map-map (moved (length x)) (pairing own rows (x ++ y)) ids))
 
-pub another-parents-list : (a b : List Entry) (e : Entry) → e .ty ≡ 30 → (onGiven parentOf (ownMac (a ++ b)) ≡ given (parentOf (rlocOf e)) → ⊥)
-    → pairings (a ++ e ∷ b) ≡ map (moved (length (allOf 30 a))) (pairings (a ++ b))
-unfolding pairings rowIds
-another-parents-list a b e h other =
-    let own = own-other a b e (λ z. omega arith) in
-    let table = last-other 16 absent a b e (λ z. omega arith) in
-    let with : listRlocs (a ++ e ∷ b) ≡ map rlocOf (allOf 30 a) ++ rlocOf e ∷ map rlocOf (allOf 30 b)
-    = rlocs-are (a ++ e ∷ b) ∙ ap (map rlocOf) (with-it a b e h) ∙ map-append rlocOf (allOf 30 a) (e ∷ allOf 30 b) in
-    let without : listRlocs (a ++ b) ≡ map rlocOf (allOf 30 a) ++ map rlocOf (allOf 30 b)
-    = rlocs-are (a ++ b) ∙ ap (map rlocOf) (all-split 30 a b) ∙ map-append rlocOf (allOf 30 a) (allOf 30 b) in
-    rw (own, table, with, without)
-    (moved-all (ownMac (a ++ b)) (rowIds (a ++ b)) (rowIds (a ++ b)) (map rlocOf (allOf 30 a)) (map rlocOf (allOf 30 b)) (rlocOf e) _ other (length-map (allOf 30 a) rlocOf))
+module _ (s t : List ℕ) (es fs : List Entry) (h : checked s ≡ given es) (k : checked t ≡ given fs) (own : ownMac es ≡ ownMac fs)
+    (table : valueOr (last 16 es) ≡ valueOr (last 16 fs)) (x y : List (List ℕ)) (v : List ℕ)
+    (with : map bytesOf (allOf 30 es) ≡ x ++ v ∷ y) (without : map bytesOf (allOf 30 fs) ≡ x ++ y)
+    (other : onGiven parentOf (ownMac fs) ≡ given (parentOf (rlocIn v)) → ⊥) where
+  rlocs-with : listRlocs es ≡ map rlocIn x ++ rlocIn v ∷ map rlocIn y
+  rlocs-with = rlocs-are es ∙ ap (map rlocIn) with ∙ map-append rlocIn x (v ∷ y)
 
--- The number that is moved so is the same list's.
-pub the-same-list : (a b : List Entry) (e : Entry) (k : ℕ) → e .ty ≡ 30 → nth (allOf 30 (a ++ e ∷ b)) (after (length (allOf 30 a)) k) ≡ nth (allOf 30 (a ++ b)) k
-the-same-list a b e k h =
-    ap (λ (l : List Entry). nth l (after (length (allOf 30 a)) k)) (with-it a b e h)
-    ∙ same-list e (allOf 30 a) (allOf 30 b) k
-    ∙ ap (λ (l : List Entry). nth l k) (sym (all-split 30 a b))
+  rlocs-without : listRlocs fs ≡ map rlocIn x ++ map rlocIn y
+  rlocs-without = rlocs-are fs ∙ ap (map rlocIn) without ∙ map-append rlocIn x y
 
--- Where every list is of the payload's own parent, the answers are what document 01's rule gave.
-child-ids : (es : List Entry) → map childOf (listRlocs es) ≡ map (λ (l : AddressList). l .childId) (addressLists es)
+  pub another-parents-list : paired s ≡ onGiven (map (moved (length x))) (paired t)
+  unfolding paired pairings rowIds
+  another-parents-list =
+      rw (h, k, own, table, rlocs-with, rlocs-without)
+      (ap given (moved-all (ownMac fs) (rowIds fs) (rowIds fs) (map rlocIn x) (map rlocIn y) (rlocIn v) (length x) other (length-map x rlocIn)))
+
+-- The child ID by which a list is paired is the one that is decoded of it.
+pub child-ids : (es : List Entry) → map childOf (listRlocs es) ≡ map (λ (l : AddressList). l .childId) (addressLists es)
 unfolding listRlocs addressLists
 child-ids es = ap (map childOf) (map-map _ _ (allOf 30 es)) ∙ map-map _ _ (allOf 30 es) ∙ sym (map-map _ _ (allOf 30 es))
 
+-- Where every list is of the payload's own parent, the answers are what document 01's rule gave.
 pub as-01-gave : (es : List Entry) (mac : ℕ) → ownMac es ≡ given mac → Every (λ (l : ℕ). parentOf l ≡ parentOf mac) (listRlocs es)
     → pairings es ≡ map (rule01 (rowIds es) (map (λ (l : AddressList). l .childId) (addressLists es))) (rowIds es)
 unfolding pairings

@@ -28,7 +28,7 @@ use Rattle.diag_entries.proofs.Checks.{Decodes, entry-other, checked-given, che
 use Rattle.pair_rule.specs.Pairing.{judged, pairing}
 use Rattle.pair_rule.specs.Codes.{codeOf}
 use Rattle.pairing.specs.Payload.{rowIds, listRlocs, ownMac, pairings, paired, codes, rowPairing}
-use Rattle.pairing.specs.Loops.{orZero, ownIn, under, rowIdAt, rowsOf, listRlocOf, listsOf, keysOf, Counts, Places, codesBy}
+use Rattle.pairing.specs.Loops.{orZero, ownIn, unclearWithout, rowIdAt, rowsOf, listRlocOf, listsOf, keysOf, Counts, Places, codesBy}
 use Rattle.pair_rule.specs.declared.Pairing.{Pairing}
 use Rattle.pairing.proofs.Rowed.{listed-map, listed-same, every-listed, map-same, nth-in, nth-out, nth-map}
 use Rattle.pairing.proofs.Tallies.{judged-is}
@@ -211,7 +211,7 @@ module _ (s : List ℕ) (n : ℕ) (told : given n ≡ onGiven length (checked s)
       own-mac = mac ∙ ap ownIn (last-is 1) ∙ own-is absent es own-none all
 
       module _ (rows count place : List ℕ) (r : Counts rows (rowsOf v)) (c : Counts count (keysOf own (listsOf es))) (q : Places place (keysOf own (listsOf es))) where
-        judged-by : (id : ℕ) → id < 512 → under own (judged (getD rows id 0) (getD count id 0) (getD place id 0)) ≡ pairing (ownMac es) (rowsOf v) (listsOf es) id
+        judged-by : (id : ℕ) → id < 512 → unclearWithout own (judged (getD rows id 0) (getD count id 0) (getD place id 0)) ≡ pairing (ownMac es) (rowsOf v) (listsOf es) id
         judged-by id h =
             rw (r .is id h, c .is id h, q .is id h)
             (judged-is own (rowsOf v) (listsOf es) id h ∙ ap (λ (a : Answer ℕ). pairing a (rowsOf v) (listsOf es) id) own-mac)
@@ -223,7 +223,7 @@ module _ (s : List ℕ) (n : ℕ) (told : given n ≡ onGiven length (checked s)
             ∙ ap given (map-map _ _ (rowsOf v) ∙ sym (map-same _ _ _ (rowsOf v) (λ id h. ap codeOf (judged-by id h)) (rows-low v)))
 
         pub row-answered : (k id : ℕ) → k < length v / 3 → id ≡ rowIdAt v k
-            → (x : Pairing) → x ≡ under own (judged (getD rows id 0) (getD count id 0) (getD place id 0)) → given x ≡ rowPairing k s
+            → (x : Pairing) → x ≡ unclearWithout own (judged (getD rows id 0) (getD count id 0) (getD place id 0)) → given x ≡ rowPairing k s
         unfolding rowPairing
         row-answered k id h e x made =
             rw answers-are

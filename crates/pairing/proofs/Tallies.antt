@@ -14,7 +14,7 @@ use Rattle.laws.proofs.Tests.{by-test}
 use Rattle.refusal.specs.Answer.{Answer, given, absent, refused}
 use Rattle.pair_rule.specs.Pairing.{occurs, counts, counting, numberOf, judged, pairing}
 use Rattle.pair_rule.proofs.Parents.{placeOf}
-use Rattle.pairing.specs.Loops.{lastPlace, countsIn, under, keyOf, keysOf, Counts, Places}
+use Rattle.pairing.specs.Loops.{lastPlace, isOwn, unclearWithout, keyOf, keysOf, Counts, Places}
 
 -- ---- one element more: x itself, or another
 pub occurs-none : (i : ℕ) → occurs i [] ≡ 0
@@ -143,7 +143,7 @@ last-only x best n (y ∷ ys) h =
 -- by the keys, for a child ID
 module _ (mac x : ℕ) (low : x < 512) where
   occurs-keys : (ls : List ℕ) → occurs x (keysOf (given mac) ls) ≡ occurs x (counting mac ls)
-  unfolding occurs keysOf keyOf countsIn counting
+  unfolding occurs keysOf keyOf isOwn counting
   occurs-keys [] = refl
   occurs-keys (l ∷ ls) =
       by-test (counts mac l)
@@ -151,7 +151,7 @@ module _ (mac x : ℕ) (low : x < 512) where
       (λ a. rw (a, ne-eqb 512 x (λ e. omega arith)) (occurs-keys ls))
 
   place-keys : (ls : List ℕ) → placeOf x (keysOf (given mac) ls) ≡ numberOf mac x ls
-  unfolding placeOf keysOf keyOf countsIn numberOf
+  unfolding placeOf keysOf keyOf isOwn numberOf
   place-keys [] = refl
   place-keys (l ∷ ls) =
       by-test (counts mac l)
@@ -159,8 +159,8 @@ module _ (mac x : ℕ) (low : x < 512) where
       (λ a. rw (a, ne-eqb 512 x (λ e. omega arith)) (ap suc (place-keys ls)))
 
 pub judged-is : (own : Answer ℕ) (rows lists : List ℕ) (id : ℕ) → id < 512
-    → under own (judged (occurs id rows) (occurs id (keysOf own lists)) (lastPlace id 0 0 (keysOf own lists))) ≡ pairing own rows lists id
-unfolding under pairing judged
+    → unclearWithout own (judged (occurs id rows) (occurs id (keysOf own lists)) (lastPlace id 0 0 (keysOf own lists))) ≡ pairing own rows lists id
+unfolding unclearWithout pairing judged
 judged-is (given mac) rows lists id h =
     by-test (eqb (occurs id (keysOf (given mac) lists)) 1)
     (λ e.

@@ -52,20 +52,20 @@ ownIn v = pick (eqb (length v) 2) (given (be v)) absent
 
 -- ---- where it is absent no list counts, and every row is unclear
 
-unfoldable pub countsIn : (own : Answer ℕ) → (list : ℕ) → Bool
-countsIn (given mac) l = counts mac l
-countsIn absent l = false
-countsIn (refused n p i) l = false
+unfoldable pub isOwn : (own : Answer ℕ) → (list : ℕ) → Bool
+isOwn (given mac) l = counts mac l
+isOwn absent l = false
+isOwn (refused n p i) l = false
 
-unfoldable pub under : (own : Answer ℕ) → Pairing → Pairing
-under (given mac) x = x
-under absent x = p.Unclear
-under (refused n q i) x = p.Unclear
+unfoldable pub unclearWithout : (own : Answer ℕ) → Pairing → Pairing
+unclearWithout (given mac) x = x
+unclearWithout absent x = p.Unclear
+unclearWithout (refused n q i) x = p.Unclear
 
 -- ---- the child ID that a list counts for; 512, which is nobody's, for one that does not count: child IDs have nine bits
 
 unfoldable pub keyOf : (own : Answer ℕ) → (list : ℕ) → ℕ
-keyOf own l = pick (countsIn own l) (childOf l) 512
+keyOf own l = pick (isOwn own l) (childOf l) 512
 
 unfoldable pub keysOf : (own : Answer ℕ) → (lists : List ℕ) → List ℕ
 keysOf own ls = map (keyOf own) ls
@@ -85,7 +85,7 @@ pub record Places (table xs : List ℕ) : Type 0 where
   pub is : (i : ℕ) → i < 512 → getD table i 0 ≡ lastPlace i 0 0 xs
 
 abbrev pub codeBy : (own : Answer ℕ) → (rows count place : List ℕ) → (id : ℕ) → ℕ
-codeBy own rows count place id = codeOf (under own (judged (getD rows id 0) (getD count id 0) (getD place id 0)))
+codeBy own rows count place id = codeOf (unclearWithout own (judged (getD rows id 0) (getD count id 0) (getD place id 0)))
 
 unfoldable pub codesBy : (own : Answer ℕ) → (rows count place ids : List ℕ) → List ℕ
 codesBy own rows count place ids = map (codeBy own rows count place) ids

@@ -1,4 +1,5 @@
 -- Pairing within one payload. Document 01: "One answer goes out for each row, in row order (no child table, no answers); a pair names the list, from 0."
+-- Document 02, Two, has whose lists count (`pair_rule`).
 -- Assumes nothing.
 use Prim.Native.Nat.{ℕ}
 use mathlib.Core.List.{List, map}

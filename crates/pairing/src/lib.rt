@@ -1,4 +1,4 @@
-// Rows of a payload's child table, paired by child ID with those of its address lists that are of its own parent router.
+// Rows of a payload's child table, paired by child ID with those of its address lists that are of the router that its MAC Address names.
 use diag_rows::ReadAddressList;
 use diag_rows::ReadChild;
 use pair_rule::Pairing;
@@ -18,7 +18,7 @@ ghost use Rattle.tlv_last.specs.Last.{lastValue};
 ghost use Rattle.pair_rule.specs.Pairing.{parentOf, judged};
 ghost use Rattle.pairing.specs.Payload.{codes, rowPairing};
 ghost use Rattle.pairing.specs.Answers.{answeredAnswer, pairingAnswer};
-ghost use Rattle.pairing.specs.Loops.{ownAnswer, ownIn, countsIn, under, rowIdAt, listRlocOf, rowsOf, listsOf, keysOf, Counts, Places, codesBy};
+ghost use Rattle.pairing.specs.Loops.{ownAnswer, ownIn, isOwn, unclearWithout, rowIdAt, listRlocOf, rowsOf, listsOf, keysOf, Counts, Places, codesBy};
 
 // How many rows were answered.
 pub enum Answered {
@@ -66,7 +66,7 @@ fn own_mac(payload: &[u8]) -> OwnMac
 
 // Whether an address list of that RLOC16 counts.
 fn is_own(own: OwnMac, rloc16: u16) -> bool
-    ensures { λ r. ⌜ r ≡ countsIn (ownAnswer own) rloc16 ⌝ }
+    ensures { λ r. ⌜ r ≡ isOwn (ownAnswer own) rloc16 ⌝ }
 {
     match own {
         OwnMac::Value(mac) => parent_of(rloc16) == parent_of(mac),
@@ -74,9 +74,9 @@ fn is_own(own: OwnMac, rloc16: u16) -> bool
     }
 }
 
-// What is said of a row whose child ID stands so often in the table and among the lists that count, in the list of that number last.
-fn judge_under(own: OwnMac, rows: u16, lists: u16, place: u16) -> Pairing
-    ensures { λ r. ⌜ r ≡ under (ownAnswer own) (judged rows lists place) ⌝ }
+// The same as `judge`, and unclear where the payload has no MAC Address.
+fn judge_own(own: OwnMac, rows: u16, lists: u16, place: u16) -> Pairing
+    ensures { λ r. ⌜ r ≡ unclearWithout (ownAnswer own) (judged rows lists place) ⌝ }
 {
     match own {
         OwnMac::Value(_) => judge(rows, lists, place),
@@ -135,9 +135,9 @@ fn count_lists(payload: &[u8], own: OwnMac) -> Lists
     loop {
         match tlv::frame_at(payload, at) {
             Frame::Entry { ty, start, len } => {
-                let next = start + len;
+                at = start + len;
                 if ty == diag_rules::CHILD_IPV6_ADDRESSES {
-                    let rloc16 = list_rloc16(&payload[start..next]);
+                    let rloc16 = list_rloc16(&payload[start..at]);
                     if is_own(own, rloc16) {
                         let id = (rloc16 % 512) as usize;
                         place[id] = counted + others;
@@ -147,7 +147,6 @@ fn count_lists(payload: &[u8], own: OwnMac) -> Lists
                         others += 1;
                     }
                 }
-                at = next;
             }
             _ => {
                 return Lists {
@@ -168,7 +167,7 @@ fn write_codes(table: &[u8], own: OwnMac, rows: [u16; 512], lists: Lists, out: &
     let mut k: usize = 0;
     while k < n {
         let id = row_id(table, k);
-        out[k] = judge_under(own, rows[id], lists.count[id], lists.place[id]).code();
+        out[k] = judge_own(own, rows[id], lists.count[id], lists.place[id]).code();
         k += 1;
     }
 }
@@ -222,5 +221,5 @@ pub fn pair_row(payload: &[u8], k: usize) -> ReadPairing
     let rows = count_rows(table);
     let own = own_mac(payload);
     let lists = count_lists(payload, own);
-    ReadPairing::Value(judge_under(own, rows[id], lists.count[id], lists.place[id]))
+    ReadPairing::Value(judge_own(own, rows[id], lists.count[id], lists.place[id]))
 }

@@ -39,8 +39,8 @@ frame-at-requires c κs = search needs
 enum-known-ty : tie.Need-enum-known-ty Inv-loop μ-loop
 enum-known-ty c = search needs
 
-add-next : tie.Need-add-next Inv-loop μ-loop
-add-next c =
+add-at : tie.Need-add-at Inv-loop μ-loop
+add-at c =
     let t = c .before in
     omega (arith, turn-inside _ _ _ (t .before .before .frame-at .ensures) _ _ _ (t .ty .given .1))
 
@@ -107,14 +107,6 @@ add-counted c =
     let inside = turn-inside _ _ _ (f .frame-at .ensures) _ _ _ (t .ty .given .1) in
     omega arith
 
-add-others : tie.Need-add-others Inv-loop μ-loop
-add-others c =
-    let t = c .before .before .before .before .before .before in
-    let f = t .before .before in
-    let l = f .before .loop in
-    let inside = turn-inside _ _ _ (f .frame-at .ensures) _ _ _ (t .ty .given .1) in
-    omega arith
-
 loop-less : tie.Need-loop-less Inv-loop μ-loop
 loop-less c =
     let t = c .before .before .before .before .before .before in
@@ -141,6 +133,14 @@ loop-again c =
       inside .1,
       omega arith,
     )
+
+add-others : tie.Need-add-others Inv-loop μ-loop
+add-others c =
+    let t = c .before .before .before .before .before .before in
+    let f = t .before .before in
+    let l = f .before .loop in
+    let inside = turn-inside _ _ _ (f .frame-at .ensures) _ _ _ (t .ty .given .1) in
+    omega arith
 
 loop-less-2 : tie.Need-loop-less-2 Inv-loop μ-loop
 loop-less-2 c =
@@ -203,7 +203,7 @@ count-lists-spec =
     loop-holds
     frame-at-requires
     enum-known-ty
-    add-next
+    add-at
     sub-list-rloc16
     part-list-rloc16-start
     part-list-rloc16-end
@@ -219,9 +219,9 @@ count-lists-spec =
     mul-count-2
     array-write-count
     add-counted
-    add-others
     loop-less
     loop-again
+    add-others
     loop-less-2
     loop-again-2
     loop-less-3

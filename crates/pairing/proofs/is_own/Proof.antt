@@ -1,7 +1,7 @@
 -- `pairing::is_own` meets its contract.
 -- Assumes nothing.
 use Rattle.pair_rule.specs.Pairing.{counts}
-use Rattle.pairing.specs.Loops.{countsIn}
+use Rattle.pairing.specs.Loops.{isOwn}
 use borrow.Author.Needs.{needs}
 use Rattle.pairing.proofs.is_own.Statement.{statement}
 use Rattle.pairing.proofs.is_own.Tie as tie
@@ -19,11 +19,11 @@ enum-told : tie.Need-enum-told
 enum-told c = search needs
 
 returns : tie.Need-returns
-unfolding countsIn counts
+unfolding isOwn counts
 returns c = rw (c .parent-of2 .ensures, c .before .parent-of .ensures, c .before .before .before .own .given .1)
 
 returns-2 : tie.Need-returns-2
-unfolding countsIn
+unfolding isOwn
 returns-2 c = rw (c .enum-told .given .1)
 
 pub is-own-spec : {M : Type 1} → statement M

@@ -50,26 +50,26 @@ count-lists-requires c κs =
     let told = sym (ap countedAnswer (e .enum-told .given .1)) ∙ e .before .before .check-values .ensures in
     short-payload _ _ told
 
-mul-judge-under : tie.Need-mul-judge-under
-mul-judge-under c = search needs
+mul-judge-own : tie.Need-mul-judge-own
+mul-judge-own c = search needs
 
-array-read-judge-under : tie.Need-array-read-judge-under
-array-read-judge-under c = search needs
+array-read-judge-own : tie.Need-array-read-judge-own
+array-read-judge-own c = search needs
 
-mul-judge-under-2 : tie.Need-mul-judge-under-2
-mul-judge-under-2 c = search needs
+mul-judge-own-2 : tie.Need-mul-judge-own-2
+mul-judge-own-2 c = search needs
 
-element-copy-out-judge-under : tie.Need-element-copy-out-judge-under
-element-copy-out-judge-under c = search needs
+element-copy-out-judge-own : tie.Need-element-copy-out-judge-own
+element-copy-out-judge-own c = search needs
 
-mul-judge-under-3 : tie.Need-mul-judge-under-3
-mul-judge-under-3 c = search needs
+mul-judge-own-3 : tie.Need-mul-judge-own-3
+mul-judge-own-3 c = search needs
 
-element-copy-out-judge-under-2 : tie.Need-element-copy-out-judge-under-2
-element-copy-out-judge-under-2 c = search needs
+element-copy-out-judge-own-2 : tie.Need-element-copy-out-judge-own-2
+element-copy-out-judge-own-2 c = search needs
 
-judge-under-requires : tie.Need-judge-under-requires
-judge-under-requires c κs = search needs
+judge-own-requires : tie.Need-judge-own-requires
+judge-own-requires c κs = search needs
 
 returns-3 : tie.Need-returns-3
 returns-3 c =
@@ -82,7 +82,7 @@ returns-3 c =
     let e = t .before in
     let told = sym (ap countedAnswer (e .enum-told .given .1)) ∙ e .before .before .check-values .ensures in
     let k = lists .count-lists .ensures in
-    row-answered _ _ told _ (t .last-value .ensures) _ (own .own-mac .ensures) _ _ _ (rows .count-rows .ensures) (k .0) (k .1) _ _ (omega (arith, inside .if1 .left)) (id .row-id .ensures .0) _ (c .judge-under .ensures)
+    row-answered _ _ told _ (t .last-value .ensures) _ (own .own-mac .ensures) _ _ _ (rows .count-rows .ensures) (k .0) (k .1) _ _ (omega (arith, inside .if1 .left)) (id .row-id .ensures .0) _ (c .judge-own .ensures)
 
 pub pair-row-spec : {M : Type 1} → statement M
 pair-row-spec =
@@ -98,11 +98,11 @@ pair-row-spec =
     count-rows-requires
     own-mac-requires
     count-lists-requires
-    mul-judge-under
-    array-read-judge-under
-    mul-judge-under-2
-    element-copy-out-judge-under
-    mul-judge-under-3
-    element-copy-out-judge-under-2
-    judge-under-requires
+    mul-judge-own
+    array-read-judge-own
+    mul-judge-own-2
+    element-copy-out-judge-own
+    mul-judge-own-3
+    element-copy-out-judge-own-2
+    judge-own-requires
     returns-3)

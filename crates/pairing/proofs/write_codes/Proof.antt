@@ -27,26 +27,26 @@ loop-holds c = let p = c .before .before .pre in (refl, search needs, p, refl, r
 row-id-requires : tie.Need-row-id-requires Inv-loop μ-loop
 row-id-requires c κs = search needs
 
-mul-judge-under : tie.Need-mul-judge-under Inv-loop μ-loop
-mul-judge-under c = omega (arith, c .row-id .ensures .1)
+mul-judge-own : tie.Need-mul-judge-own Inv-loop μ-loop
+mul-judge-own c = omega (arith, c .row-id .ensures .1)
 
-array-read-judge-under : tie.Need-array-read-judge-under Inv-loop μ-loop
-array-read-judge-under c = omega (arith, c .row-id .ensures .1)
+array-read-judge-own : tie.Need-array-read-judge-own Inv-loop μ-loop
+array-read-judge-own c = omega (arith, c .row-id .ensures .1)
 
-mul-judge-under-2 : tie.Need-mul-judge-under-2 Inv-loop μ-loop
-mul-judge-under-2 c = omega (arith, c .row-id .ensures .1)
+mul-judge-own-2 : tie.Need-mul-judge-own-2 Inv-loop μ-loop
+mul-judge-own-2 c = omega (arith, c .row-id .ensures .1)
 
-element-copy-out-judge-under : tie.Need-element-copy-out-judge-under Inv-loop μ-loop
-element-copy-out-judge-under c = omega (arith, c .row-id .ensures .1)
+element-copy-out-judge-own : tie.Need-element-copy-out-judge-own Inv-loop μ-loop
+element-copy-out-judge-own c = omega (arith, c .row-id .ensures .1)
 
-mul-judge-under-3 : tie.Need-mul-judge-under-3 Inv-loop μ-loop
-mul-judge-under-3 c = omega (arith, c .before .row-id .ensures .1)
+mul-judge-own-3 : tie.Need-mul-judge-own-3 Inv-loop μ-loop
+mul-judge-own-3 c = omega (arith, c .before .row-id .ensures .1)
 
-element-copy-out-judge-under-2 : tie.Need-element-copy-out-judge-under-2 Inv-loop μ-loop
-element-copy-out-judge-under-2 c = omega (arith, c .before .row-id .ensures .1)
+element-copy-out-judge-own-2 : tie.Need-element-copy-out-judge-own-2 Inv-loop μ-loop
+element-copy-out-judge-own-2 c = omega (arith, c .before .row-id .ensures .1)
 
-judge-under-requires : tie.Need-judge-under-requires Inv-loop μ-loop
-judge-under-requires c κs = search needs
+judge-own-requires : tie.Need-judge-own-requires Inv-loop μ-loop
+judge-own-requires c κs = search needs
 
 code-requires : tie.Need-code-requires Inv-loop μ-loop
 code-requires c κs = search needs
@@ -69,7 +69,7 @@ loop-again c =
     let i = j .before .before .before in
     let l = i .before .before .loop in
     let t = rw (l .inv .0) at (i .before .loop-test .taken) in
-    let made = c .code .ensures ∙ ap codeOf (j .judge-under .ensures) in (
+    let made = c .code .ensures ∙ ap codeOf (j .judge-own .ensures) in (
       l .inv .0,
       omega arith,
       simp length-set (l .inv .2),
@@ -93,13 +93,13 @@ write-codes-spec =
     μ-loop
     loop-holds
     row-id-requires
-    mul-judge-under
-    array-read-judge-under
-    mul-judge-under-2
-    element-copy-out-judge-under
-    mul-judge-under-3
-    element-copy-out-judge-under-2
-    judge-under-requires
+    mul-judge-own
+    array-read-judge-own
+    mul-judge-own-2
+    element-copy-out-judge-own
+    mul-judge-own-3
+    element-copy-out-judge-own-2
+    judge-own-requires
     code-requires
     mul-out
     slice-write-out

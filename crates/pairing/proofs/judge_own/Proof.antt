@@ -1,10 +1,10 @@
--- `pairing::judge_under` meets its contract.
+-- `pairing::judge_own` meets its contract.
 -- Assumes nothing.
 use mathlib.Core.Path.{_∙_}
-use Rattle.pairing.specs.Loops.{under}
+use Rattle.pairing.specs.Loops.{unclearWithout}
 use borrow.Author.Needs.{needs}
-use Rattle.pairing.proofs.judge_under.Statement.{statement}
-use Rattle.pairing.proofs.judge_under.Tie as tie
+use Rattle.pairing.proofs.judge_own.Statement.{statement}
+use Rattle.pairing.proofs.judge_own.Tie as tie
 
 enum-told : tie.Need-enum-told
 enum-told c = search needs
@@ -16,12 +16,12 @@ enum-told-2 : tie.Need-enum-told-2
 enum-told-2 c = search needs
 
 returns : tie.Need-returns
-unfolding under
+unfolding unclearWithout
 returns c = c .judge .ensures ∙ rw (c .before .enum-told .given .1)
 
 returns-2 : tie.Need-returns-2
-unfolding under
+unfolding unclearWithout
 returns-2 c = rw (c .enum-told2 .given .1)
 
-pub judge-under-spec : {M : Type 1} → statement M
-judge-under-spec = tie.close (tie.spec enum-told judge-requires enum-told-2 returns returns-2)
+pub judge-own-spec : {M : Type 1} → statement M
+judge-own-spec = tie.close (tie.spec enum-told judge-requires enum-told-2 returns returns-2)
