@@ -2,16 +2,14 @@
 -- are nothing to the answers.
 -- Assumes nothing.
 use mathlib.Core.Path.{_≡_, refl, sym, ap, ap₂, _∙_}
-use mathlib.Core.Bool.{Bool}
 use mathlib.Core.List.{List, [], _∷_, _++_, map, map-map, map-append, map-congr-left}
 use Prim.Native.Nat.{ℕ}
 use native.Mathlib.Omega.{arith}
 use lib.ListN.{length, length-map}
-use borrow.Author.Tests.{ne-eqb}
-use Rattle.refusal.specs.Answer.{pick, Answer, given, absent, refused, onGiven}
+use Rattle.refusal.specs.Answer.{Answer, given, absent, refused, onGiven}
 use Rattle.refusal.specs.Every.{Every}
 use Rattle.tlv.specs.Entries.{Entry}
-use Rattle.tlv_last.specs.Last.{lastOf, valueOr}
+use Rattle.tlv_last.specs.Last.{valueOr}
 use Rattle.refusal.specs.Numbered.{nth}
 use Rattle.diag_rows.specs.Rows.{listed, childRows, addressListOf}
 use Rattle.diag_entries.specs.Parts.{last, allOf}
@@ -106,30 +104,11 @@ rows-and-lists es fs own table lists =
     ∙ ap₂ (λ (v : List ℕ) (l : List ℕ). map (pairing (ownMac fs) (map rowId (childRows v)) l) (map rowId (childRows v)))
     table (rlocs-are es ∙ ap (map rlocIn) lists ∙ sym (rlocs-are fs))
 
--- so for two payloads that decode
+-- So for two payloads that decode: whatever else is in them, entries of any other type and where all of them stand, is nothing to the answers.
 pub same-answers : (s t : List ℕ) (es fs : List Entry) → checked s ≡ given es → checked t ≡ given fs → ownMac es ≡ ownMac fs
     → valueOr (last 16 es) ≡ valueOr (last 16 fs) → map bytesOf (allOf 30 es) ≡ map bytesOf (allOf 30 fs) → (paired s ≡ paired t) × (codes s ≡ codes t)
 unfolding paired codes
 same-answers s t es fs h k own table lists = let same = rows-and-lists es fs own table lists in (rw (h, k) (ap given same), rw (h, k) (rw same))
-
--- An entry of any other type, known or not, may be left out, put in or moved.
-last-other : (ty : ℕ) (best : Answer Entry) (a b : List Entry) (e : Entry) → (e .ty ≡ ty → ⊥) → lastOf ty best (a ++ e ∷ b) ≡ lastOf ty best (a ++ b)
-unfolding lastOf
-last-other ty best [] b e h = ap (λ (x : Bool). lastOf ty (pick x (given e) best) b) (ne-eqb _ _ h)
-last-other ty best (x ∷ a) b e h = last-other ty _ a b e h
-
-all-other : (ty : ℕ) (a b : List Entry) (e : Entry) → (e .ty ≡ ty → ⊥) → allOf ty (a ++ e ∷ b) ≡ allOf ty (a ++ b)
-unfolding allOf
-all-other ty [] b e h = rw (ne-eqb _ _ h)
-all-other ty (x ∷ a) b e h = rw (all-other ty a b e h)
-
-own-other : (a b : List Entry) (e : Entry) → (e .ty ≡ 1 → ⊥) → ownMac (a ++ e ∷ b) ≡ ownMac (a ++ b)
-unfolding ownMac
-own-other a b e h = ap (onGiven _) (last-other 1 absent a b e h)
-
-pub any-other-entry : (a b : List Entry) (e : Entry) → (e .ty ≡ 1 → ⊥) → (e .ty ≡ 16 → ⊥) → (e .ty ≡ 30 → ⊥) → pairings (a ++ e ∷ b) ≡ pairings (a ++ b)
-any-other-entry a b e m h k =
-    rows-and-lists (a ++ e ∷ b) (a ++ b) (own-other a b e m) (ap valueOr (last-other 16 absent a b e h)) (ap (map bytesOf) (all-other 30 a b e k))
 
 -- ---- whose lists count (document 02, Two)
 
