@@ -15,3 +15,7 @@ pairing-from-code x r q left over = both (x .𝓤) _ _ _ (λ e f. (e ∙ sym f, 
 -- pair_rule::judge
 pub judge : One Rattle.pair_rule.proofs.judge.ended (λ M. Rattle.pair_rule.proofs.judge.clauses)
 judge x r q left over = both (x .𝓤) _ _ _ (λ e f. (e ∙ sym f, refl))
+
+-- pair_rule::counts
+pub counts : One Rattle.pair_rule.proofs.counts.ended (λ M. Rattle.pair_rule.proofs.counts.clauses)
+counts x r q left over = both (x .𝓤) _ _ _ (λ e f. (e ∙ sym f, refl))

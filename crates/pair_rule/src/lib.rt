@@ -1,7 +1,8 @@
-// What is said of a row of a child table that is paired with the address lists: the rule, and the number that stands for the answer in an output.
+// What is said of a row of a child table that is paired with the address lists: the rule, whose lists count, and the number that stands for the answer
+// in an output.
 ghost use mathlib.Core.Path.{_≡_};
 ghost use mathlib.Core.List.{[], _∷_};
-ghost use Rattle.pair_rule.specs.Pairing.{judged};
+ghost use Rattle.pair_rule.specs.Pairing.{parentOf, counts, judged};
 ghost use Rattle.pair_rule.specs.Codes.{codeNone, codeUnclear, codeOf, meant};
 
 // In an output of numbers a pair is the number of its list; these stand for the other two answers.
@@ -47,6 +48,20 @@ impl Pairing {
         }
         Pairing::Paired(code)
     }
+}
+
+// The parent router that an RLOC16 names: its top six bits.
+fn parent_of(rloc16: u16) -> u16
+    ensures { λ r. ⌜ r ≡ parentOf rloc16 ⌝ }
+{
+    rloc16 / 1024
+}
+
+// Whether an address list of that RLOC16 counts in a payload whose own MAC Address is mac.
+pub fn counts(mac: u16, rloc16: u16) -> bool
+    ensures { λ r. ⌜ r ≡ counts mac rloc16 ⌝ }
+{
+    parent_of(rloc16) == parent_of(mac)
 }
 
 // What is said of a row whose child ID stands so often in the table and among the lists that count, the last of them the list of that number.

@@ -2,6 +2,7 @@
 use diag_rows::ReadAddressList;
 use diag_rows::ReadChild;
 use pair_rule::Pairing;
+use pair_rule::counts;
 use pair_rule::judge;
 use refusal::Fault;
 use refusal::Refusal;
@@ -15,7 +16,7 @@ ghost use Rattle.refusal.specs.Sizes.{mostBytes};
 ghost use Rattle.refusal.specs.Output.{put, output, emit};
 ghost use Rattle.tlv.specs.Entries.{framing};
 ghost use Rattle.tlv_last.specs.Last.{lastValue};
-ghost use Rattle.pair_rule.specs.Pairing.{parentOf, judged};
+ghost use Rattle.pair_rule.specs.Pairing.{judged};
 ghost use Rattle.pairing.specs.Payload.{codes, rowPairing};
 ghost use Rattle.pairing.specs.Answers.{answeredAnswer, pairingAnswer};
 ghost use Rattle.pairing.specs.Loops.{ownAnswer, ownIn, isOwn, unclearWithout, rowIdAt, listRlocOf, rowsOf, listsOf, keysOf, Counts, Places, codesBy};
@@ -45,13 +46,6 @@ struct Lists {
     place: [u16; 512],
 }
 
-// The parent router that an RLOC16 names: its top six bits.
-fn parent_of(rloc16: u16) -> u16
-    ensures { λ r. ⌜ r ≡ parentOf rloc16 ⌝ }
-{
-    rloc16 / 1024
-}
-
 // A payload's own MAC Address, its last.
 fn own_mac(payload: &[u8]) -> OwnMac
     ensures { λ r. ⌜ ownAnswer r ≡ ownIn (lastValue 1 (now (payload .entry))) ⌝ }
@@ -69,7 +63,7 @@ fn is_own(own: OwnMac, rloc16: u16) -> bool
     ensures { λ r. ⌜ r ≡ isOwn (ownAnswer own) rloc16 ⌝ }
 {
     match own {
-        OwnMac::Value(mac) => parent_of(rloc16) == parent_of(mac),
+        OwnMac::Value(mac) => counts(mac, rloc16),
         OwnMac::Absent => false,
     }
 }

@@ -1,8 +1,8 @@
--- `pairing::parent_of` meets its contract.
+-- `pair_rule::parent_of` meets its contract.
 -- Assumes nothing.
 use native.Mathlib.Omega.{arith}
-use Rattle.pairing.proofs.parent_of.Statement.{statement}
-use Rattle.pairing.proofs.parent_of.Tie as tie
+use Rattle.pair_rule.proofs.parent_of.Statement.{statement}
+use Rattle.pair_rule.proofs.parent_of.Tie as tie
 
 returns : tie.Need-returns
 returns c = omega arith
