@@ -23,6 +23,8 @@ faultNumber f.ValueTooLong = 13
 faultNumber f.NowTooLate = 14
 -- document 02, One: "15 if a field doesn't fit its bits ..."
 faultNumber f.Unwritable = 15
+-- document 02, Three: "16 for any text outside those forms"
+faultNumber f.NotAddress = 16
 
 abbrev pub refusalAnswer : {A : Type 0} → Refusal → Answer A
 refusalAnswer r = refused (faultNumber (r .fault)) (r .place) (r .input)

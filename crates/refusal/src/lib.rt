@@ -37,6 +37,7 @@ pub enum Fault {
     ValueTooLong,
     NowTooLate,
     Unwritable,
+    NotAddress,
 }
 
 // What is refused, the place in the input that is at fault, and which input that is: 0 the first, 1 the second.
@@ -84,6 +85,7 @@ impl Fault {
             Fault::ValueTooLong => 13,
             Fault::NowTooLate => 14,
             Fault::Unwritable => 15,
+            Fault::NotAddress => 16,
         }
     }
 }
