@@ -12,6 +12,7 @@ ghost use Rattle.refusal.specs.Output.{output, emit, put, placing, placed, writ
 ghost use Rattle.hex_text.specs.HexText.{hexText};
 ghost use Rattle.address_forms.specs.Groups.{groups};
 ghost use Rattle.address_forms.specs.Colons.{led};
+ghost use Rattle.address_forms.specs.AddressForms.{mostText};
 ghost use Rattle.address_forms.specs.AddressText.{groupText, texts, parted, longerOf, run, longestFrom, around, addressText};
 
 // How many groups in a row are zero, from one group on, where so many are from the next group on.
@@ -130,8 +131,8 @@ fn put_around(address: &[u8], start: usize, len: usize, out: &mut [u8]) -> usize
 
 // The text of an address, at the start of out.
 fn lay_text(address: &[u8], out: &mut [u8]) -> usize
-    requires { ⌜ (length (now address) ≡ 16) × (39 ≤ length (now out)) ⌝ }
-    ensures { λ r. ⌜ (r ≡ length (addressText (now (address .entry)))) × (r ≤ 39) × (now (out .exit) ≡ put (now (out .entry)) 0 (addressText (now (address .entry)))) ⌝ }
+    requires { ⌜ (length (now address) ≡ 16) × (mostText ≤ length (now out)) ⌝ }
+    ensures { λ r. ⌜ (r ≡ length (addressText (now (address .entry)))) × (r ≤ mostText) × (now (out .exit) ≡ put (now (out .entry)) 0 (addressText (now (address .entry)))) ⌝ }
 {
     let run = longest_run(address);
     let start = run.start;
@@ -147,7 +148,7 @@ fn lay_text(address: &[u8], out: &mut [u8]) -> usize
 pub fn write_address(address: [u8; 16], out: &mut [u8]) -> Written
     ensures { λ r. ⌜ output (writtenAnswer r) (now (out .exit)) ≡ emit (given (addressText address)) (now (out .entry)) ⌝ }
 {
-    let mut text = [0u8; 39];
+    let mut text = [0u8; address_forms::MAX_TEXT];
     let n = lay_text(&address, &mut text);
     if n > out.len() {
         return refusal::refuse(Fault::NoRoom, 0);
