@@ -125,7 +125,7 @@ module _ (gs : List ℕ) (r : Run) (l : Longest 0 gs r) where
     kept : Recommended gs (shortened r gs)
     unfolding shortened
     kept =
-        by-test (ltb (r .len) fewest) (λ e. rw e (in-full (full-kept (ltb-true _ _ e)))) (λ e. rw e (in-short (short-kept (ltb-false _ _ e))))
+        by-test (ltb (r .len) fewest) (λ e. rw e (in-full (full-kept (omega (arith, ltb-true (r .len) fewest e))))) (λ e. rw e (in-short (short-kept (omega (arith, ltb-false (r .len) fewest e)))))
 
   -- ---- no other text keeps them
 
@@ -133,7 +133,7 @@ module _ (gs : List ℕ) (r : Run) (l : Longest 0 gs r) where
   unfolding shortened parted
   full-one t u =
       by-test (ltb (r .len) fewest) (λ e. rw (e, u .spells) (ap joined (sym (values-texts (u .fields) (u .each)) ∙ ap texts (sym (u .says)))))
-      (λ e. absurd (u .none (r .start) (zeros-fewer gs _ _ 2 (ltb-false _ _ e) found)))
+      (λ e. absurd (u .none (r .start) (zeros-fewer gs _ _ 2 (omega (arith, ltb-false (r .len) fewest e)) found)))
 
   module _ (t : List ℕ) (s : Shortened gs t) where
     zeros : Zeros gs (length (values (s .left))) (s .run)

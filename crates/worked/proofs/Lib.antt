@@ -2,3 +2,4 @@ pub mod Delay
 pub mod Diag
 pub mod NetworkData
 pub mod Pairing
+pub mod Addresses

@@ -17,7 +17,7 @@ put-parted-requires : tie.Need-put-parted-requires
 put-parted-requires c κs =
     let l = c .before .before in
     let s = l .before .before .before in
-    let plain = text-plain (s .args .address .now) _ (l .longest-run .ensures) (c .before .if1 .taken) in
+    let plain = text-plain (s .args .address .now) _ (l .longest-run .ensures) (omega (arith, c .before .if1 .taken)) in
     omega (arith, text-short (s .args .address .now) (s .pre .0), ap length plain)
 
 put-around-requires : tie.Need-put-around-requires
@@ -26,7 +26,7 @@ put-around-requires c κs =
     let s = l .before .before .before in
     let a = s .args .address .now in
     let found = l .longest-run .ensures in
-    (omega (arith, run-inside a _ found (s .pre .0)), omega (arith, text-short a (s .pre .0), ap length (text-around a _ found (c .before .if1 .left))))
+    (omega (arith, run-inside a _ found (s .pre .0)), omega (arith, text-short a (s .pre .0), ap length (text-around a _ found (omega (arith, c .before .if1 .left)))))
 
 same-length : tie.Need-same-length
 same-length c = search needs
@@ -37,7 +37,7 @@ returns c =
     let l = p .before .before .before in
     let s = l .before .before .before in
     let a = s .args .address .now in
-    let plain = text-plain a _ (l .longest-run .ensures) (p .before .before .if1 .taken) in
+    let plain = text-plain a _ (l .longest-run .ensures) (omega (arith, p .before .before .if1 .taken)) in
     let short = text-short a (s .pre .0) in
     (omega (arith, p .put-parted .ensures .0, ap length plain), omega (arith, p .put-parted .ensures .0, ap length plain), p .put-parted .ensures .1 ∙ ap (put _ _) (sym plain))
 
@@ -50,7 +50,7 @@ returns-2 c =
     let l = p .before .before .before in
     let s = l .before .before .before in
     let a = s .args .address .now in
-    let both = text-around a _ (l .longest-run .ensures) (p .before .before .if1 .left) in
+    let both = text-around a _ (l .longest-run .ensures) (omega (arith, p .before .before .if1 .left)) in
     let short = text-short a (s .pre .0) in
     (p .put-around .ensures .0 ∙ ap length (sym both), omega (arith, p .put-around .ensures .0, ap length both), p .put-around .ensures .1 ∙ ap (put _ _) (sym both))
 

@@ -4,10 +4,9 @@ use mathlib.Core.Path.{_≡_}
 use Prim.Native.Nat.{_+_, _*_, _/_, _-_, _≤_}
 use native.Mathlib.Omega.{arith}
 use lib.ListN.{length, drop, length-drop}
-use borrow.Author.Needs.{needs}
 use Rattle.address_forms.specs.Groups.{groups}
 use Rattle.address_forms.specs.AddressText.{zeroes, longestFrom}
-use Rattle.address_forms.proofs.Groups.{groups-end, groups-back, length-groups}
+use Rattle.address_forms.proofs.Groups.{groups-back, length-groups}
 use Rattle.address_forms.proofs.Runs.{zeroes-fit, zeroes-end, longest-end, zeroes-turn, longest-turn}
 use borrow.Author.Needs.{needs}
 use Rattle.address_writing.proofs.longest_run.Statement.{statement}
@@ -22,8 +21,7 @@ abbrev μ-loop : tie.MeasureT-loop
 loop-holds : tie.Need-loop-holds Inv-loop μ-loop
 loop-holds c =
     let b = c .before .args .bytes .now in
-    let none = groups-end b (2 * (length b / 2)) (omega arith) in
-    (omega arith, zeroes-end _ none, longest-end _ _ none)
+    (omega arith, zeroes-end b (length b / 2) (omega arith), longest-end b (length b / 2) (omega arith))
 
 sub-k : tie.Need-sub-k Inv-loop μ-loop
 sub-k c = search needs
