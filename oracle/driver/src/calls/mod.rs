@@ -4,6 +4,7 @@ use crate::answer::{Answer, Found};
 use crate::sizes;
 use crate::words::{Words, bytes_word};
 
+mod addresses;
 mod base16;
 mod changes;
 mod delay;
@@ -17,6 +18,7 @@ mod queries;
 mod records;
 mod write;
 
+pub use addresses::GROUPS;
 use diagnostics::Tables;
 pub use listing::refusal_printed;
 pub use parts::VERSIONS;
@@ -100,6 +102,8 @@ pub const ALL: &[Call] = &[
     Call { name: "timeout", answer: |w| Some(diagnostics::timeout(w.number()?)) },
     Call { name: "pair", answer: |w| Some(pairing::pair(&w.bytes()?, w.number()?)) },
     Call { name: "write", answer: write::write },
+    Call { name: "addrtext", answer: |w| addresses::addrtext(&w.bytes()?, w.number()?) },
+    Call { name: "textaddr", answer: |w| Some(addresses::textaddr(&w.bytes()?, w.number()?)) },
     Call { name: "wdelay", answer: |w| Some(delay::wdelay(&w.bytes()?)) },
     Call { name: "due", answer: |w| Some(delay::due(&w.bytes()?, w.number()?)) },
     Call { name: "flat", answer: |w| Some(listing::flat(&w.bytes()?, w.number()?)) },
@@ -107,9 +111,10 @@ pub const ALL: &[Call] = &[
     Call { name: "prog", answer: |w| Some(listing::prog(&w.bytes()?)) },
 ];
 
-/// Calls that the Rust does not have: what they answer is document 01's or 02's, over what the Rust reads.
+/// Calls that the Rust does not have: what they answer is document 01's or 02's, over what the Rust, or its standard
+/// library, reads.
 pub const NOT_IN_THE_RUST: &[&str] =
-    &["ops", "fold", "fold2", "pair", "write", "wdelay", "due", "flat", "hexflat", "prog"];
+    &["ops", "fold", "fold2", "pair", "write", "addrtext", "textaddr", "wdelay", "due", "flat", "hexflat", "prog"];
 
 fn tables(words: &mut Words) -> Option<Tables> {
     Some(Tables { prefixes: words.number()?, has_routes: words.number()?, border_routers: words.number()? })

@@ -72,7 +72,7 @@ fn edge_caps(need: Option<u64>) -> Vec<u64> {
 }
 
 /// The length of what the call would write, or how many answers it gives, unless it refuses for another reason.
-fn need_of(call: &str, words: &str) -> Option<u64> {
+pub fn need_of(call: &str, words: &str) -> Option<u64> {
     let answer = answer_to(format!("{call} {words} {}", u64::MAX))?;
     if call == "pair" { answer.split(' ').next()?.parse().ok() } else { Some(bytes_in(&answer)) }
 }

@@ -8,6 +8,8 @@ use meshcop::dataset::{
 use crate::random::Random;
 use crate::words::bytes_word;
 
+mod address_texts;
+mod addresses;
 mod base16;
 mod caps;
 mod changes;
@@ -122,6 +124,8 @@ const MAKERS: &[Maker] = &[
     diagnostics::TIMEOUT,
     pairing::PAIR,
     write::WRITE,
+    addresses::ADDRTEXT,
+    addresses::TEXTADDR,
     delay::WDELAY,
     delay::DUE,
     listing::FLAT,

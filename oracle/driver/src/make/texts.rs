@@ -10,12 +10,17 @@ const NO_HEX_DIGITS: &[u8] = b"/:@G`gxX \n\r\t-\0\x7f\x80\xc3\xff";
 /// The hex text of some bytes, in lower, upper or mixed case.
 pub fn hex_text(random: &mut Random, bytes: &[u8]) -> Vec<u8> {
     let mut text = hex::encode(bytes).into_bytes();
+    change_case(random, &mut text);
+    text
+}
+
+/// To upper case, or here and there, or not at all.
+pub fn change_case(random: &mut Random, text: &mut [u8]) {
     match random.below(4) {
         0 => text.make_ascii_uppercase(),
         1 => text.iter_mut().filter(|_| random.once_in(2)).for_each(|c| c.make_ascii_uppercase()),
         _ => {}
     }
-    text
 }
 
 /// The hex text of some bytes, in most cases; else of odd length, or with a character that is no digit, or both.
