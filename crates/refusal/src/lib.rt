@@ -1,4 +1,4 @@
-// What every call of the library may refuse, under document 01's numbers, and the sizes that bound its inputs.
+// What every call of the library may refuse, under the numbers of documents 01 and 02, and the sizes that bound its inputs.
 ghost use mathlib.Core.Path.{_≡_};
 ghost use mathlib.Core.List.{[], _∷_};
 ghost use Rattle.refusal.specs.Sizes.{mostBytes, mostDigits, mostEntries};

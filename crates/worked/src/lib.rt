@@ -1,1 +1,1 @@
-// Worked lines of the working delay, Network Data, diagnostic payloads and pairing, computed from the definitions: theorems only.
+// Worked lines of the working delay, Network Data, diagnostic payloads, pairing and addresses as text, computed from the definitions: theorems only.
