@@ -6,16 +6,16 @@ use Prim.Native.Nat.{ℕ, zero, suc, _+_, _-_, _≤_, _<_}
 use native.Mathlib.Omega.{arith}
 use lib.ListN.{length, take, drop, replicate, getD, length-append, length-drop, length-replicate}
 use lib.Seq.{length-take-le, take-at, drop-at, drop-drop, take-take}
-use lib.Dec.{eqb, ltb}
-use borrow.Author.Tests.{eq-eqb, ltb-true, ltb-false, lt-ltb, le-ltb}
+use lib.Dec.{ltb}
+use borrow.Author.Tests.{eq-eqb, ltb-true, ltb-false, le-ltb}
 use Rattle.refusal.specs.Every.{Every, Bytes}
 use Rattle.laws.proofs.Tests.{by-test}
 use Rattle.laws.proofs.Parts.{every-take, every-drop}
 use Rattle.address_forms.specs.Groups.{groups}
 use Rattle.address_forms.specs.Colons.{joined}
-use Rattle.address_forms.specs.AddressText.{texts, parted, zeroes, longestFrom, around, fewest, shortened, addressText}
+use Rattle.address_forms.specs.AddressText.{texts, parted, zeroes, around, fewest, shortened, addressText}
 use Rattle.address_forms.specs.AddressForms.{values, Form, preferred, compressed}
-use Rattle.address_forms.specs.Recommended.{ShortField, Zeros, Unshortened, Shortened, Recommended, in-full, in-short}
+use Rattle.address_forms.specs.Recommended.{Zeros, Unshortened, Shortened, Recommended, in-full, in-short}
 use Rattle.address_forms.specs.declared.Run.{Run}
 use Rattle.address_forms.proofs.Groups.{Small, groups-small}
 use Rattle.address_forms.proofs.Runs.{Longest, longest-is, run-parts}
