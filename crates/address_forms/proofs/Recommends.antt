@@ -13,7 +13,7 @@ use Rattle.laws.proofs.Tests.{by-test}
 use Rattle.laws.proofs.Parts.{every-take, every-drop}
 use Rattle.address_forms.specs.Groups.{groups}
 use Rattle.address_forms.specs.Colons.{joined}
-use Rattle.address_forms.specs.AddressText.{texts, parted, zeroes, around, fewest, shortened, addressText}
+use Rattle.address_forms.specs.AddressText.{texts, parted, zerosInFront, around, fewest, shortened, addressText}
 use Rattle.address_forms.specs.AddressForms.{values, Form, preferred, compressed}
 use Rattle.address_forms.specs.Recommended.{Zeros, Unshortened, Shortened, Recommended, in-full, in-short}
 use Rattle.address_forms.specs.declared.Run.{Run}
@@ -30,8 +30,8 @@ take-replicate zero n h = refl
 take-replicate (suc k) zero h = absurd (omega arith)
 take-replicate (suc k) (suc n) h = ap (_∷_ 0) (take-replicate k n (omega arith))
 
-zeroes-least : (n : ℕ) (gs : List ℕ) → n ≤ length gs → take n gs ≡ replicate n 0 → n ≤ zeroes gs
-unfolding zeroes
+zeroes-least : (n : ℕ) (gs : List ℕ) → n ≤ length gs → take n gs ≡ replicate n 0 → n ≤ zerosInFront gs
+unfolding zerosInFront
 zeroes-least zero gs h e = omega arith
 zeroes-least (suc n) [] h e = absurd (omega arith)
 zeroes-least (suc n) (g ∷ gs) h e =
@@ -39,7 +39,7 @@ zeroes-least (suc n) (g ∷ gs) h e =
     rw (eq-eqb g 0 none) (omega (arith, zeroes-least n gs (omega arith) (ap (drop 1) e)))
 
 -- a run of zeros is no longer than what is counted from its first group on
-zeros-counted : (gs : List ℕ) (s n : ℕ) → Zeros gs s n → n ≤ zeroes (drop s gs)
+zeros-counted : (gs : List ℕ) (s n : ℕ) → Zeros gs s n → n ≤ zerosInFront (drop s gs)
 zeros-counted gs s n z = zeroes-least n (drop s gs) (rw length-drop (omega (arith, z .inside))) (z .zero)
 
 -- the first groups of a run are one

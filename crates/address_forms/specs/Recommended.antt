@@ -1,4 +1,4 @@
--- The text that RFC 5952, section 4, recommends for an address of these groups, rule by rule. `recommended` and `recommended-one` of
+-- The text that RFC 5952, sections 4.1 to 4.3, recommends for an address of these groups, rule by rule. `recommended` and `recommended-one` of
 -- proofs/Recommends.antt: `addressText` gives such a text, and there is no other.
 -- Assumes nothing.
 use mathlib.Core.Path.{_≡_}
@@ -10,7 +10,7 @@ use Rattle.base16.specs.Base16.{lowered}
 use Rattle.address_forms.specs.Colons.{joined}
 use Rattle.address_forms.specs.AddressForms.{Field, values}
 
--- a field as it is written: 4.1, "Leading zeros MUST be suppressed" ('0' is 48), but "a single 16-bit 0000 field MUST be represented as 0"; and 4.3,
+-- a field as it is written: 4.1, "Leading zeros MUST be suppressed" ('0' is 48), but "A single 16-bit 0000 field MUST be represented as 0"; and 4.3,
 -- "The characters "a", "b", "c", "d", "e", and "f" in an IPv6 address MUST be represented in lowercase"
 pub record ShortField (x : List ℕ) : Type 0 where
   pub field : Field x

@@ -5,7 +5,7 @@ use Prim.Native.Nat.{_+_, _*_, _/_, _-_, _≤_}
 use native.Mathlib.Omega.{arith}
 use lib.ListN.{length, drop, length-drop}
 use Rattle.address_forms.specs.Groups.{groups}
-use Rattle.address_forms.specs.AddressText.{zeroes, longestFrom}
+use Rattle.address_forms.specs.AddressText.{zerosInFront, longestFrom}
 use Rattle.address_forms.proofs.Groups.{groups-back, length-groups}
 use Rattle.address_forms.proofs.Runs.{zeroes-fit, zeroes-end, longest-end, zeroes-turn, longest-turn}
 use borrow.Author.Needs.{needs}
@@ -13,7 +13,7 @@ use Rattle.address_writing.proofs.longest_run.Statement.{statement}
 use Rattle.address_writing.proofs.longest_run.Tie as tie
 
 abbrev Inv-loop : tie.InvT-loop
-Inv-loop bytes k₀ best₀ zeros₀ k best zeros = (k ≤ 8) × (zeros ≡ zeroes (groups (drop (2 * k) bytes))) × (best ≡ longestFrom k (groups (drop (2 * k) bytes)))
+Inv-loop bytes k₀ best₀ zeros₀ k best zeros = (k ≤ 8) × (zeros ≡ zerosInFront (groups (drop (2 * k) bytes))) × (best ≡ longestFrom k (groups (drop (2 * k) bytes)))
 
 abbrev μ-loop : tie.MeasureT-loop
 μ-loop bytes k₀ best₀ zeros₀ k best zeros = k
