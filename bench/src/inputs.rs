@@ -1,5 +1,6 @@
 //! The inputs of about so many bytes, the same for both sides.
 
+use crate::addresses::Addresses;
 use crate::diagnostics::Diagnostics;
 use crate::writing::Writing;
 
@@ -12,6 +13,7 @@ pub struct Input {
     pub ascii: Vec<u8>,
     pub mixed: Vec<u8>,
     pub list: Vec<u8>,
+    pub addresses: Addresses,
     pub diag: Diagnostics,
     pub writing: Writing,
 }
@@ -47,6 +49,7 @@ impl Input {
             ascii: (0..size).map(|k| b'a' + (k % 26) as u8).collect(),
             mixed: "aé本😀".bytes().cycle().take(size / 10 * 10).collect(),
             list: list(size),
+            addresses: Addresses::of(size),
             diag: Diagnostics::of(size),
             writing: Writing::of(size),
             dataset,

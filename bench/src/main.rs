@@ -1,6 +1,7 @@
 //! Both sides in one program: `both WORK SIDE SIZE TURNS` does WORK that many times on an input of about SIZE bytes, by the
 //! library (ours) or by the Rust (rust), and prints what it got; `both list` prints the names of the work. The side `base` is
 //! what the library's `write` does besides writing.
+mod addresses;
 mod diagnostics;
 mod inputs;
 mod limit;
@@ -14,12 +15,14 @@ use inputs::Input;
 type Work = fn(&Input, &mut [u8]) -> u64;
 
 /// Each with the library's way and the Rust's.
-const WORK: [(&str, Work, Work); 24] = [
+const WORK: [(&str, Work, Work); 26] = [
     ("framing", ours::framing, rust::framing),
     ("rewrite", ours::rewrite, rust::rewrite),
     ("last_value", ours::last_value, rust::last_value),
     ("hex_in", ours::hex_in, rust::hex_in),
     ("hex_out", ours::hex_out, rust::hex_out),
+    ("addr_text", ours::addr_text, rust::addr_text),
+    ("addr_in", ours::addr_in, rust::addr_in),
     ("utf8_ascii", ours::utf8_ascii, rust::utf8_ascii),
     ("utf8_mixed", ours::utf8_mixed, rust::utf8_mixed),
     ("run", ours::run, rust::run),

@@ -7,6 +7,8 @@ unsafe extern "C" {
     fn speed_rewrite(s: *const u8, n: usize, out: *mut u8, room: usize) -> u64;
     fn speed_unhex(s: *const u8, n: usize, out: *mut u8, room: usize) -> u64;
     fn speed_hex(s: *const u8, n: usize, out: *mut u8, room: usize) -> u64;
+    fn speed_address_text(s: *const u8, n: usize, out: *mut u8, room: usize) -> u64;
+    fn speed_address_in(s: *const u8, n: usize, out: *mut u8, room: usize) -> u64;
     fn speed_utf8(s: *const u8, n: usize) -> bool;
     fn speed_run(d: *const u8, m: usize, l: *const u8, n: usize, out: *mut u8, room: usize) -> u64;
     fn speed_fold(l: *const u8, n: usize, out: *mut u8, room: usize) -> u64;
@@ -34,6 +36,22 @@ pub fn hex_in(input: &Input, out: &mut [u8]) -> u64 {
 
 pub fn hex_out(input: &Input, out: &mut [u8]) -> u64 {
     unsafe { speed_hex(input.dataset.as_ptr(), input.dataset.len(), out.as_mut_ptr(), out.len()) }
+}
+
+/// One call after another, for each of a list: so stands what they write.
+fn each<T: AsRef<[u8]>>(list: &[T], call: unsafe extern "C" fn(*const u8, usize, *mut u8, usize) -> u64, out: &mut [u8]) -> u64 {
+    list.iter().map(AsRef::as_ref).fold(0, |at, bytes| {
+        let rest = &mut out[at as usize..];
+        at + unsafe { call(bytes.as_ptr(), bytes.len(), rest.as_mut_ptr(), rest.len()) }
+    })
+}
+
+pub fn addr_text(input: &Input, out: &mut [u8]) -> u64 {
+    each(&input.addresses.bytes, speed_address_text, out)
+}
+
+pub fn addr_in(input: &Input, out: &mut [u8]) -> u64 {
+    each(&input.addresses.texts, speed_address_in, out)
 }
 
 pub fn utf8_ascii(input: &Input, _: &mut [u8]) -> u64 {

@@ -4,6 +4,8 @@ use crate::sums;
 use meshcop::dataset::Dataset;
 use meshcop::meshcop::diag::{ModeData, NetDiagData, NetworkData};
 use meshcop::tlv::{TlvEntry, TlvSet};
+use std::io::Write;
+use std::net::Ipv6Addr;
 
 /// What the library answers for a refusal: 2^63 and its number.
 const NONE: u64 = 1 << 63;
@@ -35,6 +37,26 @@ pub fn hex_in(input: &Input, out: &mut [u8]) -> u64 {
 pub fn hex_out(input: &Input, out: &mut [u8]) -> u64 {
     let twice = input.dataset.len() * 2;
     hex::encode_to_slice(&input.dataset, &mut out[..twice]).map_or(NONE, |()| twice as u64)
+}
+
+/// All texts, one after another.
+pub fn addr_text(input: &Input, out: &mut [u8]) -> u64 {
+    let room = out.len();
+    let mut rest = out;
+    for &bytes in &input.addresses.bytes {
+        write!(rest, "{}", Ipv6Addr::from(bytes)).expect("room");
+    }
+    (room - rest.len()) as u64
+}
+
+/// All addresses, one after another.
+pub fn addr_in(input: &Input, out: &mut [u8]) -> u64 {
+    let mut at = 0;
+    for text in &input.addresses.texts {
+        let address: Ipv6Addr = std::str::from_utf8(text).expect("a text").parse().expect("an address");
+        at += written(&address.octets(), &mut out[at..]) as usize;
+    }
+    at as u64
 }
 
 pub fn utf8_ascii(input: &Input, _: &mut [u8]) -> u64 {

@@ -1,4 +1,5 @@
-// The texts of calls that write into an output which is lent: entries, hex text, edits, change lists, listings.
+// The texts of calls that write into an output which is lent: entries, hex text, edits, change lists, listings, addresses.
+mod addresses;
 mod answers;
 mod edits;
 mod entries;

@@ -6,6 +6,8 @@ pub mod TlvWriting
 pub mod TlvRewriting
 pub mod HexText
 pub mod Base16
+pub mod AddressWriting
+pub mod AddressReading
 pub mod Utf8
 pub mod Values
 pub mod Timestamps

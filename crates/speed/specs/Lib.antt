@@ -1,2 +1,3 @@
 pub mod Code
+pub mod Address
 pub mod Filled

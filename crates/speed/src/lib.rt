@@ -25,6 +25,8 @@ ghost use Rattle.tlv_rewriting.specs.Rewrite.{rewritten};
 ghost use Rattle.tlv_rewriting.specs.declared.Choice.the-variants.{All};
 ghost use Rattle.hex_text.specs.HexText.{hexText};
 ghost use Rattle.base16.specs.Base16.{decoded};
+ghost use Rattle.address_forms.specs.AddressText.{addressText};
+ghost use Rattle.address_forms.specs.AddressRead.{addressOf};
 ghost use Rattle.utf8.specs.Utf8.{octets};
 ghost use Rattle.change_folds.specs.Run.{ran};
 ghost use Rattle.change_folds.specs.Fold.{folded};
@@ -34,6 +36,7 @@ ghost use Rattle.diag_rules.specs.Rule.{valueOf};
 ghost use Rattle.diag.specs.Diag.{decode};
 ghost use Rattle.record_writing.specs.Written.{written};
 ghost use Rattle.speed.specs.Code.{code};
+ghost use Rattle.speed.specs.Address.{addressIn};
 ghost use Rattle.speed.specs.Filled.{recordOf, lentWith};
 ghost use Rattle.value_sums.specs.Sums.{modeSum, countsSum};
 ghost use Rattle.payload_sums.specs.Rows.{payloadSum};
@@ -88,6 +91,23 @@ pub extern "C" fn speed_hex(bytes: &[u8], out: &mut [u8]) -> u64
     ensures { λ r. ⌜ (r ≡ code (emit (given (hexText (now (bytes .entry)))) (now (out .entry)) .answer)) × (now (out .exit) ≡ emit (given (hexText (now (bytes .entry)))) (now (out .entry)) .left) ⌝ }
 {
     coded(hex_text::encode(bytes, out))
+}
+
+// The address has the bytes where they are 16. Fewer stand before zeros; of more, none is taken.
+#[no_mangle]
+pub extern "C" fn speed_address_text(bytes: &[u8], out: &mut [u8]) -> u64
+    ensures { λ r. ⌜ (r ≡ code (emit (given (addressText (addressIn (now (bytes .entry))))) (now (out .entry)) .answer)) × (now (out .exit) ≡ emit (given (addressText (addressIn (now (bytes .entry))))) (now (out .entry)) .left) ⌝ }
+{
+    let mut address = [0u8; 16];
+    copying::put_bytes(bytes, &mut address, 0);
+    coded(address_writing::write_address(address, out))
+}
+
+#[no_mangle]
+pub extern "C" fn speed_address_in(text: &[u8], out: &mut [u8]) -> u64
+    ensures { λ r. ⌜ (r ≡ code (emit (addressOf (now (text .entry))) (now (out .entry)) .answer)) × (now (out .exit) ≡ emit (addressOf (now (text .entry))) (now (out .entry)) .left) ⌝ }
+{
+    coded(address_reading::read_address(text, out))
 }
 
 #[no_mangle]

@@ -1,4 +1,5 @@
 // Calls that write listings: `flat`, `hexflat`, `prog`.
+use crate::edit_texts::addresses::address_calls;
 use crate::edit_texts::answers::Answer;
 use crate::edit_texts::lent::lend;
 use crate::edit_texts::lent::put_written;
@@ -19,5 +20,5 @@ pub(crate) fn listing_calls(request: &Room, v: Values, lent: &mut [u8]) -> Answe
     if asks(request, b"hexflat bn") {
         return Answer::Wrote(listing::list_hex(v.bytes(request, 1), lent));
     }
-    Answer::Unknown
+    address_calls(request, v, lent)
 }
