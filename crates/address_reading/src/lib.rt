@@ -171,8 +171,8 @@ fn read_around(left: &[u8], right: &[u8], out: &mut [u8]) -> Written
     Written::Bytes(16)
 }
 
-// The 16 bytes that a text stands for, at the start of out. Refusals: 16, 11.
-pub fn read_address(text: &[u8], out: &mut [u8]) -> Written
+// The bytes of a text, by whether it has "::".
+fn read_parts(text: &[u8], out: &mut [u8]) -> Written
     ensures { λ r. ⌜ output (writtenAnswer r) (now (out .exit)) ≡ emit (addressOf (now (text .entry))) (now (out .entry)) ⌝ }
 {
     let gap = find_gap(text);
@@ -181,4 +181,14 @@ pub fn read_address(text: &[u8], out: &mut [u8]) -> Written
     } else {
         read_around(&text[0..gap], &text[gap + 2..], out)
     }
+}
+
+// The 16 bytes that a text stands for, at the start of out. A text that is longer than any address is refused unread. Refusals: 16, 11.
+pub fn read_address(text: &[u8], out: &mut [u8]) -> Written
+    ensures { λ r. ⌜ output (writtenAnswer r) (now (out .exit)) ≡ emit (addressOf (now (text .entry))) (now (out .entry)) ⌝ }
+{
+    if text.len() > address_forms::MAX_TEXT {
+        return refusal::refuse(Fault::NotAddress, 0);
+    }
+    read_parts(text, out)
 }
