@@ -1,2 +1,4 @@
+pub mod Digits
 pub mod Counts
+pub mod Turns
 pub mod Laid

@@ -1,7 +1,7 @@
 -- `address_reading::digit_value` meets its contract.
 -- Assumes nothing.
 use native.Mathlib.Omega.{arith}
-use Rattle.address_reading.proofs.Counts.{numeral-is, small-is, capital-is, other-is}
+use Rattle.address_reading.proofs.Digits.{numeral-is, small-is, capital-is, other-is}
 use borrow.Author.Needs.{needs}
 use Rattle.address_reading.proofs.digit_value.Statement.{statement}
 use Rattle.address_reading.proofs.digit_value.Tie as tie

@@ -1,90 +1,64 @@
 -- `address_reading::read_address` meets its contract.
 -- Assumes nothing.
-use mathlib.Core.Path.{_∙_}
+use mathlib.Core.Path.{sym}
 use native.Mathlib.Omega.{arith}
-use Rattle.address_forms.proofs.Gaps.{gap-parts}
-use Rattle.address_reading.proofs.Counts.{address-whole, address-around}
+use Rattle.laws.proofs.Emits.{placed-left, emit-refused, emit-no-room, emit-done}
+use Rattle.address_reading.proofs.Laid.{read-given, read-none}
 use borrow.Author.Needs.{needs}
 use Rattle.address_reading.proofs.read_address.Statement.{statement}
 use Rattle.address_reading.proofs.read_address.Tie as tie
 
-find-gap-requires : tie.Need-find-gap-requires
-find-gap-requires c κs = search needs
+slice-aggregate-take-text : tie.Need-slice-aggregate-take-text
+slice-aggregate-take-text c = search needs
 
-read-whole-requires : tie.Need-read-whole-requires
-read-whole-requires c κs = search needs
+take-text-requires : tie.Need-take-text-requires
+take-text-requires c κs = search needs
 
-sub-read-around : tie.Need-sub-read-around
-sub-read-around c = search needs
+refuse-requires : tie.Need-refuse-requires
+refuse-requires c κs = search needs
 
-part-read-around-start : tie.Need-part-read-around-start
-part-read-around-start c = search needs
+returns : tie.Need-returns
+returns c =
+    let k = c .before .before .before in
+    rw (c .refuse .ensures) (emit-refused _ _ _ _ _ (sym (read-none _ _ _ (k .take-text .ensures) (λ z. omega arith))))
 
-part-read-around-end : tie.Need-part-read-around-end
-part-read-around-end c =
-    let f = c .before in
-    let room = gap-parts (f .before .before .before .args .text .now) (λ z. c .if1 .left (f .find-gap .ensures ∙ z)) .0 in
-    omega (arith, f .find-gap .ensures)
+refuse-requires-2 : tie.Need-refuse-requires-2
+refuse-requires-2 c κs = search needs
 
-add-read-around : tie.Need-add-read-around
-add-read-around c =
-    let f = c .before .before in
-    let room = gap-parts (f .before .before .before .args .text .now) (λ z. c .before .if1 .left (f .find-gap .ensures ∙ z)) .0 in
-    omega (arith, f .find-gap .ensures)
+returns-2 : tie.Need-returns-2
+returns-2 c =
+    let k = c .before .before .before .before in
+    let is = read-given _ _ _ (k .take-text .ensures) (omega arith) in
+    rw (c .refuse2 .ensures) (emit-no-room _ _ _ is (omega (arith, k .take-text .kept .1 .0)))
 
-sub-read-around-2 : tie.Need-sub-read-around-2
-sub-read-around-2 c =
-    let f = c .before .before in
-    let room = gap-parts (f .before .before .before .args .text .now) (λ z. c .before .if1 .left (f .find-gap .ensures ∙ z)) .0 in
-    omega (arith, f .find-gap .ensures)
+slice-aggregate-put-bytes : tie.Need-slice-aggregate-put-bytes
+slice-aggregate-put-bytes c = search needs
 
-part-read-around-start-2 : tie.Need-part-read-around-start-2
-part-read-around-start-2 c =
-    let f = c .before .before in
-    let room = gap-parts (f .before .before .before .args .text .now) (λ z. c .before .if1 .left (f .find-gap .ensures ∙ z)) .0 in
-    omega (arith, f .find-gap .ensures)
-
-part-read-around-end-2 : tie.Need-part-read-around-end-2
-part-read-around-end-2 c = search needs
-
-read-around-requires : tie.Need-read-around-requires
-read-around-requires c κs = search needs
+put-bytes-requires : tie.Need-put-bytes-requires
+put-bytes-requires c κs = search needs
 
 same-length : tie.Need-same-length
 same-length c = search needs
 
-returns : tie.Need-returns
-returns c =
+returns-3 : tie.Need-returns-3
+returns-3 c =
     let p = c .before .before in
-    let o = p .before .before in
-    let f = o .before in
-    rw (address-whole (f .before .before .before .args .text .now) _ (f .find-gap .ensures) (o .if1 .taken)) (p .read-whole .ensures)
-
-same-length-2 : tie.Need-same-length-2
-same-length-2 c = search needs
-
-returns-2 : tie.Need-returns-2
-returns-2 c =
-    let p = c .before .before in
-    let o = p .before .before .before .before in
-    let f = o .before in
-    rw (address-around (f .before .before .before .args .text .now) _ (f .find-gap .ensures) (o .if1 .left)) (p .read-around .ensures)
+    let k = p .before .before .before .before .before .before in
+    let is = read-given _ _ _ (k .take-text .ensures) (omega arith) in
+    let long = k .take-text .kept .1 .0 in
+    emit-done _ _ _ is _ _ (sym long) (placed-left _ _ _ _ _ (p .put-bytes .ensures) (omega arith)) (omega arith)
 
 pub read-address-spec : {M : Type 1} → statement M
 read-address-spec =
     tie.close
     (tie.spec
-    find-gap-requires
-    read-whole-requires
-    sub-read-around
-    part-read-around-start
-    part-read-around-end
-    add-read-around
-    sub-read-around-2
-    part-read-around-start-2
-    part-read-around-end-2
-    read-around-requires
-    same-length
+    slice-aggregate-take-text
+    take-text-requires
+    refuse-requires
     returns
-    same-length-2
-    returns-2)
+    refuse-requires-2
+    returns-2
+    slice-aggregate-put-bytes
+    put-bytes-requires
+    same-length
+    returns-3)
