@@ -11,7 +11,7 @@ use borrow.Author.Tests.{leb-true, leb-false, eq-eqb, ne-eqb, le-leb, lt-leb}
 use Rattle.refusal.specs.Answer.{Answer, given, absent, refused, thenDo}
 use Rattle.laws.proofs.Tests.{by-test}
 use Rattle.address_forms.specs.Groups.{bytesOf}
-use Rattle.address_forms.specs.AddressRead.{noAddress, goodFrom, valuesFrom, fieldsOf, gapOf, whole, filled, bothSides, addressOf}
+use Rattle.address_forms.specs.AddressRead.{noAddress, goodFrom, valuesFrom, fieldsOf, gapOf, whole, filled, bothSides, textAddress}
 use Rattle.address_reading.specs.Loops.{groupsIn, countIn}
 
 -- ---- the count of groups that are given
@@ -94,13 +94,13 @@ module _ (left right : List ℕ) where
         ∙ ap (λ (x : Answer (List ℕ)). thenDo x (λ ys. filled (groupsIn (fieldsOf left)) ys)) (q .0) ∙ rw (m, n, le-leb (l + r) 7 seven)
 
 module _ (t : List ℕ) (gap : ℕ) (found : gap ≡ gapOf t) where
-  pub address-whole : gap ≡ length t → addressOf t ≡ thenDo (fieldsOf t) whole
-  unfolding addressOf
+  pub address-whole : gap ≡ length t → textAddress t ≡ thenDo (fieldsOf t) whole
+  unfolding textAddress
   address-whole h = rw (← found) (rw (eq-eqb gap (length t) h))
 
   pub address-around : (gap ≡ length t → ⊥)
-      → addressOf t ≡ bothSides (take (gap - 0) (drop 0 t)) (take (length t - (gap + 2)) (drop (gap + 2) t))
-  unfolding addressOf
+      → textAddress t ≡ bothSides (take (gap - 0) (drop 0 t)) (take (length t - (gap + 2)) (drop (gap + 2) t))
+  unfolding textAddress
   address-around h =
       let none : gap - 0 ≡ gap = omega arith in
       rw (← found) (rw (ne-eqb gap (length t) h, none, take-all (length t - (gap + 2)) (drop (gap + 2) t) (rw length-drop (omega arith))))

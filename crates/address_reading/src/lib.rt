@@ -6,7 +6,7 @@ ghost use mathlib.Core.List.{[], _∷_};
 ghost use Prim.Native.Nat.{_+_, _/_, _%_, _≤_, _<_};
 ghost use lib.ListN.{length, replicate};
 ghost use Rattle.refusal.specs.Output.{output, emit, put, placing, writtenAnswer};
-ghost use Rattle.address_forms.specs.AddressRead.{fieldsOf, gapOf, bothSides, addressOf};
+ghost use Rattle.address_forms.specs.AddressRead.{fieldsOf, gapOf, bothSides, textAddress};
 ghost use Rattle.address_reading.specs.Loops.{nibble, added, ended, Taken, ofEight};
 
 // The count where a text is not groups, or is more of them than an address has.
@@ -138,7 +138,7 @@ fn take_around(left: &[u8], right: &[u8], out: &mut [u8]) -> usize
 // The bytes of the groups that a text stands for, in out; how many they are, 8 where it is an address. A text longer than any address is not read.
 fn take_text(text: &[u8], out: &mut [u8]) -> usize
     requires { ⌜ now out ≡ replicate 16 0 ⌝ }
-    ensures { λ r. ⌜ addressOf (now (text .entry)) ≡ ofEight r (now (out .exit)) ⌝ }
+    ensures { λ r. ⌜ textAddress (now (text .entry)) ≡ ofEight r (now (out .exit)) ⌝ }
 {
     if text.len() > address_forms::MAX_TEXT {
         return NO_GROUPS;
@@ -153,7 +153,7 @@ fn take_text(text: &[u8], out: &mut [u8]) -> usize
 
 // The 16 bytes that a text stands for, at the start of out. Refusals: 16, 11.
 pub fn read_address(text: &[u8], out: &mut [u8]) -> Written
-    ensures { λ r. ⌜ output (writtenAnswer r) (now (out .exit)) ≡ emit (addressOf (now (text .entry))) (now (out .entry)) ⌝ }
+    ensures { λ r. ⌜ output (writtenAnswer r) (now (out .exit)) ≡ emit (textAddress (now (text .entry))) (now (out .entry)) ⌝ }
 {
     let mut bytes = [0u8; 16];
     let count = take_text(text, &mut bytes);

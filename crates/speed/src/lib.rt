@@ -26,7 +26,7 @@ ghost use Rattle.tlv_rewriting.specs.declared.Choice.the-variants.{All};
 ghost use Rattle.hex_text.specs.HexText.{hexText};
 ghost use Rattle.base16.specs.Base16.{decoded};
 ghost use Rattle.address_forms.specs.AddressText.{addressText};
-ghost use Rattle.address_forms.specs.AddressRead.{addressOf};
+ghost use Rattle.address_forms.specs.AddressRead.{textAddress};
 ghost use Rattle.utf8.specs.Utf8.{octets};
 ghost use Rattle.change_folds.specs.Run.{ran};
 ghost use Rattle.change_folds.specs.Fold.{folded};
@@ -105,7 +105,7 @@ pub extern "C" fn speed_address_text(bytes: &[u8], out: &mut [u8]) -> u64
 
 #[no_mangle]
 pub extern "C" fn speed_address_in(text: &[u8], out: &mut [u8]) -> u64
-    ensures { λ r. ⌜ (r ≡ code (emit (addressOf (now (text .entry))) (now (out .entry)) .answer)) × (now (out .exit) ≡ emit (addressOf (now (text .entry))) (now (out .entry)) .left) ⌝ }
+    ensures { λ r. ⌜ (r ≡ code (emit (textAddress (now (text .entry))) (now (out .entry)) .answer)) × (now (out .exit) ≡ emit (textAddress (now (text .entry))) (now (out .entry)) .left) ⌝ }
 {
     coded(address_reading::read_address(text, out))
 }

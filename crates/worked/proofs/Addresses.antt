@@ -14,7 +14,7 @@ use Rattle.base16.specs.Loops.{orZero, isGiven, isDigit, valueOf, paired}
 use Rattle.address_forms.specs.Groups.{groups, bytesOf}
 use Rattle.address_forms.specs.Colons.{led, joined}
 use Rattle.address_forms.specs.AddressText.{suppressed, groupText, texts, parted, zerosInFront, longerOf, longestFrom, around, shortened, addressText}
-use Rattle.address_forms.specs.AddressRead.{goodFrom, valuesFrom, fieldsOf, gapOf, whole, filled, bothSides, addressOf}
+use Rattle.address_forms.specs.AddressRead.{goodFrom, valuesFrom, fieldsOf, gapOf, whole, filled, bothSides, textAddress}
 
 -- the codes of a text's characters
 unfoldable pub codes : String → List ℕ
@@ -28,8 +28,8 @@ pub data Line : Type 0 where
 
 abbrev pub Holds : Line → Type 0
 Holds (address typed bytes written) =
-    (addressOf (codes typed) ≡ given (paired (codes bytes))) × (addressText (paired (codes bytes)) ≡ codes written)
-Holds (none typed) = addressOf (codes typed) ≡ refused 16 0 0
+    (textAddress (codes typed) ≡ given (paired (codes bytes))) × (addressText (paired (codes bytes)) ≡ codes written)
+Holds (none typed) = textAddress (codes typed) ≡ refused 16 0 0
 
 abbrev pub lines : List Line
 lines =
@@ -100,5 +100,5 @@ lines =
     ∷ []
 
 pub worked : Every Holds lines
-unfolding codes digit hexText orZero isGiven isDigit valueOf digitValue paired groups bytesOf led joined suppressed groupText texts parted zerosInFront longerOf longestFrom around shortened addressText goodFrom valuesFrom fieldsOf gapOf whole filled bothSides addressOf
+unfolding codes digit hexText orZero isGiven isDigit valueOf digitValue paired groups bytesOf led joined suppressed groupText texts parted zerosInFront longerOf longestFrom around shortened addressText goodFrom valuesFrom fieldsOf gapOf whole filled bothSides textAddress
 worked = ((refl, refl), ((refl, refl), ((refl, refl), ((refl, refl), ((refl, refl), ((refl, refl), ((refl, refl), ((refl, refl), ((refl, refl), ((refl, refl), ((refl, refl), ((refl, refl), ((refl, refl), ((refl, refl), ((refl, refl), ((refl, refl), ((refl, refl), ((refl, refl), ((refl, refl), ((refl, refl), ((refl, refl), ((refl, refl), ((refl, refl), ((refl, refl), ((refl, refl), ((refl, refl), ((refl, refl), ((refl, refl), ((refl, refl), ((refl, refl), ((refl, refl), ((refl, refl), (refl, (refl, (refl, (refl, (refl, (refl, (refl, (refl, (refl, (refl, (refl, (refl, (refl, (refl, (refl, (refl, (refl, (refl, (refl, (refl, (refl, (refl, tt))))))))))))))))))))))))))))))))))))))))))))))))))))))
