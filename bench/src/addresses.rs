@@ -1,4 +1,4 @@
-//! IPv6 addresses, three kinds in turn, and their texts. None is one that the Rust writes with dots.
+//! IPv6 addresses of four kinds, and their texts. None is one that the Rust writes with dots.
 use std::net::Ipv6Addr;
 
 pub struct Addresses {
@@ -11,7 +11,7 @@ fn group(k: usize, place: usize) -> u16 {
     ((k * 8 + place) * 40503 % 65535 + 1) as u16
 }
 
-/// One of a byte, as most of them have two digits.
+/// A group of one byte: one digit or two.
 fn short(k: usize, place: usize) -> u16 {
     group(k, place) % 255 + 1
 }

@@ -38,7 +38,7 @@ pub fn hex_out(input: &Input, out: &mut [u8]) -> u64 {
     unsafe { speed_hex(input.dataset.as_ptr(), input.dataset.len(), out.as_mut_ptr(), out.len()) }
 }
 
-/// One call after another, for each of a list: so stands what they write.
+/// A call for each of a list; what they write stands one after another.
 fn each<T: AsRef<[u8]>>(list: &[T], call: unsafe extern "C" fn(*const u8, usize, *mut u8, usize) -> u64, out: &mut [u8]) -> u64 {
     list.iter().map(AsRef::as_ref).fold(0, |at, bytes| {
         let rest = &mut out[at as usize..];

@@ -27,7 +27,7 @@ pub fn parted(fields: &[String]) -> String {
     fields.join(":")
 }
 
-/// In half of the cases a legal text, else one that was changed, or fields that few forms have.
+/// In half of the cases a legal text; else one that was changed, has something after its end or dots, or is of any fields.
 pub fn random_text(random: &mut Random) -> Vec<u8> {
     match random.below(16) {
         0..=7 => legal_text(random),

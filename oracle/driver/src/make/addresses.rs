@@ -161,7 +161,7 @@ pub const TEXTADDR: Maker = Maker {
     ],
 };
 
-/// The text, and one time in seven a byte too few to be lent.
+/// The text; one time in seven the output that is lent is a byte too short.
 fn text_words(number: usize, text: &[u8]) -> String {
     format!("{} {}", bytes_word(text), ADDRESS_BYTES - 1 + number % 7)
 }

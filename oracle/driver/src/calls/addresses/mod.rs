@@ -33,15 +33,16 @@ fn text_of(address: Ipv6Addr) -> String {
     text
 }
 
-/// What `Ipv6Addr` writes. An IPv4-mapped address, which it writes with dots, as the one that has fffe for ffff, which it does not.
+/// What `Ipv6Addr` writes. Where that has dots, of an IPv4-mapped address, what it writes with fffe in the place of ffff, and ffff
+/// put back.
 fn without_dots(address: Ipv6Addr) -> String {
-    let [.., mapped, sixth, seventh] = address.segments();
+    let [.., mapped, high, low] = address.segments();
     let text = address.to_string();
     if !has_dot(text.as_bytes()) {
         return text;
     }
     assert_eq!(mapped, 0xffff, "the mark of an IPv4-mapped address in {text}");
-    Ipv6Addr::new(0, 0, 0, 0, 0, 0xfffe, sixth, seventh).to_string().replacen("fffe", "ffff", 1)
+    Ipv6Addr::new(0, 0, 0, 0, 0, 0xfffe, high, low).to_string().replacen("fffe", "ffff", 1)
 }
 
 /// As `Ipv6Addr` has it, but of no text with dots, nor of one that is not UTF-8, which it does not take.
