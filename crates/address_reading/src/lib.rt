@@ -60,7 +60,7 @@ fn end_group(v: u16, n: usize, out: &mut [u8], count: usize) -> usize
     count + 1
 }
 
-// The bytes of the groups of one to four digits that a text is, parted by single colons, at the start of out; how many they are, or NO_GROUPS.
+// Of a text that is groups of one to four digits, parted by single colons: their bytes at the start of out, and how many groups; else NO_GROUPS.
 fn take_parted(text: &[u8], out: &mut [u8]) -> usize
     requires { ⌜ (0 < length (now text)) × (16 ≤ length (now out)) ⌝ }
     ensures { λ r. ⌜ Taken (fieldsOf (now (text .entry))) (now (out .entry)) (now (out .exit)) r ⌝ }
@@ -135,7 +135,7 @@ fn take_around(left: &[u8], right: &[u8], out: &mut [u8]) -> usize
     8
 }
 
-// The bytes of the groups that a text stands for, in out; how many they are, 8 where it is an address. A text longer than any address is not read.
+// The bytes of the groups that a text stands for, in out; how many groups, 8 where it is an address. A text longer than any address is not read.
 fn take_text(text: &[u8], out: &mut [u8]) -> usize
     requires { ⌜ now out ≡ replicate 16 0 ⌝ }
     ensures { λ r. ⌜ textAddress (now (text .entry)) ≡ ofEight r (now (out .exit)) ⌝ }
