@@ -1,1 +1,3 @@
+pub mod Meaning
 pub mod Papers
+pub mod Supplies

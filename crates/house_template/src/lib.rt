@@ -2,8 +2,10 @@
 use refusal::Refusal;
 use tlv_last::Found;
 ghost use mathlib.Core.Path.{_≡_};
+ghost use Rattle.refusal.specs.Answer.{given, absent};
+ghost use Rattle.tlv_last.specs.Last.{spotAt};
 ghost use Rattle.tlv_last.specs.Answers.{foundAnswer};
-ghost use Rattle.house_template.specs.Template.{siteFirst, suppliedSpot, suppliedValue};
+ghost use Rattle.house_template.specs.Template.{site, siteFirst, suppliedSpot, suppliedValue};
 ghost use Rattle.house_template.specs.Answers.{suppliedAnswer};
 
 // Which of the two supplies the value, and where its entry lies there: its first byte, its value's first byte, its value's length.
@@ -22,29 +24,44 @@ pub enum Supplied {
     Refused(Refusal),
 }
 
+// The site's entry.
+fn from_site(place: usize, start: usize, len: usize) -> Supplied
+    ensures { λ r. ⌜ suppliedAnswer r ≡ given (site (spotAt place start len)) ⌝ }
+{
+    // an empty value counts as present
+    Supplied::Site {
+        place: place,
+        start: start,
+        len: len,
+    }
+}
+
+// What was found in the template, where the site has no entry.
+fn from_template(house: Found) -> Supplied
+    ensures { λ r. ⌜ suppliedAnswer r ≡ siteFirst absent (foundAnswer house) ⌝ }
+{
+    match house {
+        Found::At { place, start, len } => Supplied::Template {
+            place: place,
+            start: start,
+            len: len,
+        },
+        Found::Absent => Supplied::Absent,
+        Found::Refused(r) => Supplied::Refused(r),
+    }
+}
+
 // What was found in the site's dataset, or else in the template. A refusal comes first, and the site's before the template's.
 fn site_first(site: Found, house: Found) -> Supplied
     ensures { λ r. ⌜ suppliedAnswer r ≡ siteFirst (foundAnswer site) (foundAnswer house) ⌝ }
 {
     match site {
-        Found::Refused(r) => Supplied::Refused(r),
         Found::At { place, start, len } => match house {
-            Found::Refused(r) => Supplied::Refused(r),
-            _ => Supplied::Site {
-                place: place,
-                start: start,
-                len: len,
-            },
+            Found::Refused(fault) => Supplied::Refused(fault),
+            _ => from_site(place, start, len),
         },
-        Found::Absent => match house {
-            Found::Refused(r) => Supplied::Refused(r),
-            Found::At { place, start, len } => Supplied::Template {
-                place: place,
-                start: start,
-                len: len,
-            },
-            Found::Absent => Supplied::Absent,
-        },
+        Found::Absent => from_template(house),
+        Found::Refused(r) => Supplied::Refused(r),
     }
 }
 

@@ -1,14 +1,14 @@
--- The laws of `lastOf`: one entry more, of the type or of another, where only the spots are kept; and a value that is found is a part of
--- the input.
+-- The laws of `lastOf`: what it says of a list that has the type or has not; one entry more, of the type or of another, where only the spots
+-- are kept; and a value that is found is a part of the input.
 -- Assumes nothing.
 use mathlib.Core.Path.{_≡_, refl, sym, ap, _∙_}
 use mathlib.Core.Bool.{Bool, true, false}
-use mathlib.Core.List.{List, [], _∷_}
+use mathlib.Core.List.{List, [], _∷_, _++_}
 use Prim.Native.Nat.{ℕ, _+_, _≤_}
 use native.Mathlib.Omega.{arith}
 use lib.ListN.{length, take, drop}
 use lib.Dec.{eqb}
-use borrow.Author.Tests.{eq-eqb, ne-eqb}
+use borrow.Author.Tests.{eq-eqb, ne-eqb, eqb-false}
 use Rattle.refusal.specs.Answer.{pick, Answer, given, absent, refused, thenDo, onGiven}
 use Rattle.laws.proofs.Tests.{by-test, pick-all}
 use Rattle.refusal.specs.Every.{Every}
@@ -19,6 +19,43 @@ use Rattle.tlv_last.specs.Last.{lastOf, lastEntry, Spot, spotAt, spot, l
 use Rattle.tlv.proofs.Walks.{Lies, framing-lies}
 use Rattle.tlv.proofs.Tally.{Holds, framed-holds}
 
+-- ---- "the last entry of its type"
+
+-- an entry of another type
+abbrev pub Other : ℕ → Entry → Type 0
+Other ty e = e .ty ≡ ty → ⊥
+
+-- no entry after the last of its type changes what is found, and none before it,
+pub over-others : (ty : ℕ) (best : Answer Entry) (es : List Entry) → Every (Other ty) es → lastOf ty best es ≡ best
+unfolding lastOf
+over-others ty best [] h = refl
+over-others ty best (e ∷ es) h = rw (ne-eqb (e .ty) ty (h .0)) (over-others ty best es (h .1))
+
+pub last-counts : (ty : ℕ) (best : Answer Entry) (xs : List Entry) (e : Entry) (ys : List Entry) → e .ty ≡ ty → Every (Other ty) ys
+    → lastOf ty best (xs ++ e ∷ ys) ≡ given e
+unfolding lastOf
+last-counts ty best [] e ys is h =
+    let this : pick (eqb (e .ty) ty) (given e) best ≡ given e = simp (eq-eqb (e .ty) ty is) in
+    ap (λ (x : Answer Entry). lastOf ty x ys) this ∙ over-others ty (given e) ys h
+last-counts ty best (x ∷ xs) e ys is h = last-counts ty (pick (eqb (x .ty) ty) (given x) best) xs e ys is h
+
+-- and what is found stays found, so that "absent" tells that there is none
+found-stays : (ty : ℕ) (e : Entry) (es : List Entry) → lastOf ty (given e) es ≡ absent → ⊥
+unfolding lastOf
+found-stays ty e [] h = let z : _≡_ {A = ℕ} 0 1 = cc in omega arith
+found-stays ty e (x ∷ es) h =
+    by-test (eqb (x .ty) ty) (λ t. found-stays ty x es (rw t at h)) (λ t. found-stays ty e es (rw t at h))
+
+pub absent-none : (ty : ℕ) (es : List Entry) → lastOf ty absent es ≡ absent → Every (Other ty) es
+unfolding lastOf
+absent-none ty [] h = tt
+absent-none ty (e ∷ es) h =
+    by-test (eqb (e .ty) ty)
+    (λ t. absurd (found-stays ty e es (rw t at h)))
+    (λ t. (eqb-false (e .ty) ty t, absent-none ty es (rw t at h)))
+
+-- ---- where it lies
+
 -- the spot of the last of es that has the type, or `best`
 unfoldable pub lastSpotOf : (ty : ℕ) → Answer Spot → List Entry → Answer Spot
 lastSpotOf ty best [] = best
@@ -28,7 +65,7 @@ pick-spot : (b : Bool) (e : Entry) (best : Answer Entry) → onGiven spot (pick 
 pick-spot true e best = refl
 pick-spot false e best = refl
 
-spots-of : (ty : ℕ) (best : Answer Entry) (es : List Entry) → onGiven spot (lastOf ty best es) ≡ lastSpotOf ty (onGiven spot best) es
+pub spots-of : (ty : ℕ) (best : Answer Entry) (es : List Entry) → onGiven spot (lastOf ty best es) ≡ lastSpotOf ty (onGiven spot best) es
 unfolding lastOf lastSpotOf
 spots-of ty best [] = refl
 spots-of ty best (e ∷ es) =
@@ -64,7 +101,7 @@ unfolding lastSpotOf
 last-none ty best = refl
 
 -- ---- the entry that is given, if any, lies within s
-abbrev LiesIn : List ℕ → Answer Entry → Type 0
+abbrev pub LiesIn : List ℕ → Answer Entry → Type 0
 LiesIn s (given e) = Lies s e
 LiesIn s absent = Unit {0}
 LiesIn s (refused n p i) = Unit {0}
@@ -81,7 +118,7 @@ then-lies s ty i (given es) h = last-lies s ty absent es tt h
 then-lies s ty i absent h = tt
 then-lies s ty i (refused n p k) h = tt
 
-entry-lies : (s : List ℕ) (ty i : ℕ) → LiesIn s (lastEntry ty i s)
+pub entry-lies : (s : List ℕ) (ty i : ℕ) → LiesIn s (lastEntry ty i s)
 unfolding lastEntry
 entry-lies s ty i = then-lies s ty i (framed i s) (framed-holds i (Every (Lies s)) s (framing-lies s))
 

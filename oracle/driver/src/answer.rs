@@ -20,6 +20,11 @@ impl Refusal {
     pub fn at(number: u32, place: usize) -> Self {
         Self { number, place, input: 0 }
     }
+
+    /// The same refusal, met in the second input.
+    pub fn of_second(self) -> Self {
+        Self { input: 1, ..self }
+    }
 }
 
 /// What a call that does not refuse answers.

@@ -85,12 +85,14 @@ fn label(call: &str, request: &str, answer: &Answer) -> String {
     }
 }
 
-/// The last field of a record, by its type; the last answer of a pairing; of Network Data which kinds of rows it has.
+/// The last field of a record, by its type; the last answer of a pairing; of Network Data which kinds of rows it has; who
+/// supplied a value, and whether it is empty.
 fn form_of(call: &str, words: &str) -> String {
     let last = words.rsplit(' ').next().unwrap_or_default();
     match call {
         "diag" => format!(" {}", last_type(words)),
         "pair" => format!(" {}", last.trim_end_matches(|c: char| c.is_ascii_digit())),
+        "template" => format!(" {}{}", &words[..1], if words[2..].starts_with('-') { " -" } else { " +" }),
         "nd" => last.split('|').map(|rows| if rows.ends_with('-') { " -" } else { " +" }).collect(),
         _ => String::new(),
     }

@@ -25,7 +25,7 @@ pub fn ops(list: &[u8]) -> Answer {
 
 pub fn run(bytes: &[u8], list: &[u8], cap: u64) -> Answer {
     let mut dataset = framed::read_dataset(bytes)?.dataset;
-    for operation in read_list(list).map_err(of_second)? {
+    for operation in read_list(list).map_err(Refusal::of_second)? {
         match operation {
             Operation::Set(entry) => dataset.set_raw(entry.ty, entry.value),
             Operation::Remove(ty) => dataset.remove_all(ty),
@@ -44,15 +44,11 @@ pub fn fold(list: &[u8], cap: u64) -> Answer {
 
 pub fn fold2(first: &[u8], second: &[u8], cap: u64) -> Answer {
     let mut operations = read_list(first)?;
-    operations.extend(read_list(second).map_err(of_second)?);
+    operations.extend(read_list(second).map_err(Refusal::of_second)?);
     let folded = folded(&operations);
     let written = written(&folded)?;
     sizes::test_result(&written, folded.len())?;
     lent(&written, cap)
-}
-
-fn of_second(refusal: Refusal) -> Refusal {
-    Refusal { input: 1, ..refusal }
 }
 
 /// Each type's last operation: removals first, types ascending, then sets in the order of those last operations.

@@ -1,4 +1,5 @@
-//! The working delay and the due second: the Rust's delay timer, and document 01's rule for what it means. `wdelay`, `due`.
+//! The working delay and the due second: the Rust's delay timer, and what it means by documents 01 and 02. `wdelay`, `due`,
+//! and by the number that document 01 had `wdelay30`, `due30`.
 
 use meshcop::dataset::TLV_DELAY_TIMER;
 
@@ -6,16 +7,18 @@ use super::value;
 use crate::answer::{Answer, Refusal};
 use crate::framed;
 
-/// Where there is no delay timer, in milliseconds.
-const ABSENT_DELAY: u32 = 30_000;
+/// The delays where there is no delay timer, in milliseconds.
+pub const FIVE_MINUTES: u32 = 300_000;
+pub const HALF_A_MINUTE: u32 = 30_000;
+
 const LATEST_NOW: u64 = (1 << 48) - 1;
 
-pub fn wdelay(bytes: &[u8]) -> Answer {
-    value(working_delay(bytes)?.to_string())
+pub fn wdelay(without_timer: u32, bytes: &[u8]) -> Answer {
+    value(working_delay(without_timer, bytes)?.to_string())
 }
 
-pub fn due(bytes: &[u8], now: u64) -> Answer {
-    let delay = working_delay(bytes)?;
+pub fn due(without_timer: u32, bytes: &[u8], now: u64) -> Answer {
+    let delay = working_delay(without_timer, bytes)?;
     if now > LATEST_NOW {
         return Err(Refusal::at(14, 0));
     }
@@ -23,10 +26,10 @@ pub fn due(bytes: &[u8], now: u64) -> Answer {
 }
 
 /// Refusals 1, 2, 3, then 4 of the last delay timer, or the milliseconds.
-fn working_delay(bytes: &[u8]) -> Result<u32, Refusal> {
+fn working_delay(without_timer: u32, bytes: &[u8]) -> Result<u32, Refusal> {
     let read = framed::read_dataset(bytes)?;
     match read.dataset.delay_timer() {
-        Ok(delay) => Ok(delay.unwrap_or(ABSENT_DELAY)),
+        Ok(delay) => Ok(delay.unwrap_or(without_timer)),
         Err(_) => {
             let last = read.last(TLV_DELAY_TIMER).expect("the Rust found one that does not fit");
             Err(Refusal::at(4, last.start))

@@ -3,7 +3,7 @@
 use meshcop::tlv::{self, TlvEntry};
 
 use super::{lent, value};
-use crate::answer::{Answer, Found};
+use crate::answer::{Answer, Found, Refusal};
 use crate::framed::{self, PlacedEntry};
 use crate::words::bytes_word;
 
@@ -43,12 +43,20 @@ pub fn header(ty: u8, length: usize, cap: u64) -> Answer {
 }
 
 pub fn raw(ty: u8, bytes: &[u8]) -> Answer {
+    match raw_words(ty, bytes)? {
+        Some(words) => value(words),
+        None => Ok(Found::Absent),
+    }
+}
+
+/// Refusals 1, 2, 3, or the type's last value and where it begins, if there is one.
+pub fn raw_words(ty: u8, bytes: &[u8]) -> Result<Option<String>, Refusal> {
     let read = framed::read_dataset(bytes)?;
     let Some(found) = read.dataset.raw(ty) else {
-        return Ok(Found::Absent);
+        return Ok(None);
     };
     let last = read.last(ty).expect("the Rust found one");
     let offset = last.start + last.header;
     assert_eq!(found, &bytes[offset..offset + found.len()], "the Rust's value stands at the derived place");
-    value(format!("{} @{offset}", bytes_word(found)))
+    Ok(Some(format!("{} @{offset}", bytes_word(found))))
 }

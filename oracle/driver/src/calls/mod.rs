@@ -16,6 +16,7 @@ mod pairing;
 mod parts;
 mod queries;
 mod records;
+mod template;
 mod write;
 
 pub use addresses::GROUPS;
@@ -104,8 +105,11 @@ pub const ALL: &[Call] = &[
     Call { name: "write", answer: write::write },
     Call { name: "addrtext", answer: |w| addresses::addrtext(&w.bytes()?, w.number()?) },
     Call { name: "textaddr", answer: |w| Some(addresses::textaddr(&w.bytes()?, w.number()?)) },
-    Call { name: "wdelay", answer: |w| Some(delay::wdelay(&w.bytes()?)) },
-    Call { name: "due", answer: |w| Some(delay::due(&w.bytes()?, w.number()?)) },
+    Call { name: "wdelay", answer: |w| Some(delay::wdelay(delay::FIVE_MINUTES, &w.bytes()?)) },
+    Call { name: "due", answer: |w| Some(delay::due(delay::FIVE_MINUTES, &w.bytes()?, w.number()?)) },
+    Call { name: "wdelay30", answer: |w| Some(delay::wdelay(delay::HALF_A_MINUTE, &w.bytes()?)) },
+    Call { name: "due30", answer: |w| Some(delay::due(delay::HALF_A_MINUTE, &w.bytes()?, w.number()?)) },
+    Call { name: "template", answer: |w| Some(template::template(w.number()?, &w.bytes()?, &w.bytes()?)) },
     Call { name: "flat", answer: |w| Some(listing::flat(&w.bytes()?, w.number()?)) },
     Call { name: "hexflat", answer: |w| Some(listing::hexflat(&w.bytes()?, w.number()?)) },
     Call { name: "prog", answer: |w| Some(listing::prog(&w.bytes()?)) },
@@ -113,8 +117,10 @@ pub const ALL: &[Call] = &[
 
 /// Calls that the Rust does not have: what they answer is document 01's or 02's, over what the Rust, or its standard
 /// library, reads.
-pub const NOT_IN_THE_RUST: &[&str] =
-    &["ops", "fold", "fold2", "pair", "write", "addrtext", "textaddr", "wdelay", "due", "flat", "hexflat", "prog"];
+pub const NOT_IN_THE_RUST: &[&str] = &[
+    "ops", "fold", "fold2", "pair", "write", "addrtext", "textaddr", "wdelay", "due", "wdelay30", "due30", "template",
+    "flat", "hexflat", "prog",
+];
 
 fn tables(words: &mut Words) -> Option<Tables> {
     Some(Tables { prefixes: words.number()?, has_routes: words.number()?, border_routers: words.number()? })

@@ -5,7 +5,7 @@ use super::caps::{with_cap, with_each_edge_cap, with_edge_caps_in_turn};
 use super::datasets::{
     NO_SUCH_TYPE, TYPES, all_headers_long, dataset, dataset_edges, dataset_of_entries, entry, whole_dataset,
 };
-use super::edits::{SHAPED, shaped};
+use super::edits::{FEW_SHAPED, SHAPED, shaped};
 use super::framing::words_of;
 use super::lists::{
     as_sets, list, list_edges, many_operations, removals, remove, set, shaped_list, shaped_lists, whole_list,
@@ -39,12 +39,11 @@ fn marked(number: usize) -> Vec<u8> {
     [&mark[..], rest].concat()
 }
 
-fn two_words(first: &[u8], second: &[u8]) -> String {
+pub fn two_words(first: &[u8], second: &[u8]) -> String {
     format!("{} {}", bytes_word(first), bytes_word(second))
 }
 
-/// Datasets and lists of up to two.
-const FEW_SHAPED: usize = 31;
+/// Lists of up to two.
 const FEW_LISTS: usize = shaped_lists(2);
 
 pub const RUN: Maker = Maker {

@@ -18,9 +18,11 @@ use crate::words::bytes_word;
 /// another, with a value or without, with the shortest header or a long one.
 const SHAPES: &[u8] = b"teosl";
 pub const SHAPED: usize = strings(SHAPES.len(), 0, 3);
+/// Those of up to two, which come first.
+pub const FEW_SHAPED: usize = strings(SHAPES.len(), 0, 2);
 
-/// The type that is set or removed in such a dataset.
-const SHAPED_TYPE: u8 = 3;
+/// The type that is set, removed or asked for in such a dataset.
+pub const SHAPED_TYPE: u8 = 3;
 
 pub fn shaped(number: usize) -> Vec<u8> {
     let shape = |letter| match letter {
@@ -80,7 +82,7 @@ fn random_set(random: &mut Random, call: &str) -> String {
     with_cap(random, call, &words)
 }
 
-fn some_type(random: &mut Random) -> u8 {
+pub fn some_type(random: &mut Random) -> u8 {
     if random.once_in(8) { random.byte() } else { random.pick(TYPES) }
 }
 

@@ -182,7 +182,7 @@ pub fn with_types(datasets: &[Vec<u8>]) -> Vec<String> {
 }
 
 /// The type of a dataset's last entry; of one that is cut or empty, any.
-fn last_type(bytes: &[u8]) -> u8 {
+pub fn last_type(bytes: &[u8]) -> u8 {
     let set = TlvSet::parse(bytes).unwrap_or_default();
     set.entries().last().map_or(TYPES[0], |entry| entry.ty)
 }

@@ -32,6 +32,7 @@ mod parts;
 mod payloads;
 mod queries;
 mod short;
+mod template;
 mod texts;
 mod typed;
 mod write;
@@ -126,8 +127,11 @@ const MAKERS: &[Maker] = &[
     write::WRITE,
     addresses::ADDRTEXT,
     addresses::TEXTADDR,
-    delay::WDELAY,
-    delay::DUE,
+    delay::wdelay("wdelay"),
+    delay::due("due"),
+    delay::wdelay("wdelay30"),
+    delay::due("due30"),
+    template::TEMPLATE,
     listing::FLAT,
     listing::HEXFLAT,
     listing::PROG,

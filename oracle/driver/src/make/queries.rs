@@ -54,7 +54,7 @@ fn shaped(ty: u8, number: usize) -> Vec<u8> {
 }
 
 /// Datasets with each value at a boundary, with values that fit and do not, and at the sizes.
-fn query_edges(random: &mut Random, ty: u8) -> Vec<Vec<u8>> {
+pub fn query_edges(random: &mut Random, ty: u8) -> Vec<Vec<u8>> {
     let mut edges = Vec::new();
     for (number, value) in value_edges(random, ty).iter().enumerate() {
         let before = entry(ty, &fitting(random, ty), number % 3 == 0);

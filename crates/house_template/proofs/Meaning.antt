@@ -1,0 +1,111 @@
+-- What the query says, held against request Four's sentences: whose entry it is, by the entries of the two; whose refusal; and the plain query.
+-- Assumes nothing.
+use mathlib.Core.Path.{_≡_, refl, sym, ap, _∙_}
+use mathlib.Core.List.{List, [], _∷_, _++_}
+use Prim.Native.Nat.{ℕ}
+use native.Mathlib.Omega.{arith}
+use lib.Dec.{eqb}
+use Rattle.refusal.specs.Answer.{pick, Answer, given, absent, refused, onGiven, thenDo}
+use Rattle.refusal.specs.Every.{Every}
+use Rattle.laws.proofs.Tests.{pick-all}
+use Rattle.tlv.specs.Entries.{Entry}
+use Rattle.tlv.specs.Limits.{framed}
+use Rattle.tlv_last.specs.Last.{Spot, spot, valueOr, lastOf, lastEntry, lastSpot, lastValue}
+use Rattle.tlv_last.proofs.Lasts.{Other, over-others, last-counts, absent-none}
+use Rattle.house_template.specs.Template.{Supply, site, template, whichever, onSupply, siteFirst, supplied, suppliedSpot, suppliedValue}
+
+-- a template that is not refused leaves what the site has
+keeps : (a : Entry) (ty : ℕ) (best : Answer Entry) (ts : List Entry) → siteFirst (given a) best ≡ given (site a)
+    → siteFirst (given a) (lastOf ty best ts) ≡ given (site a)
+unfolding lastOf
+keeps a ty best [] h = h
+keeps a ty best (e ∷ ts) h =
+    keeps a ty (pick (eqb (e .ty) ty) (given e) best) ts
+    (pick-all (λ (x : Answer Entry). siteFirst (given a) x ≡ given (site a)) (eqb (e .ty) ty) (given e) best (λ k. refl) (λ k. h))
+
+-- nothing is supplied only where neither has anything
+neither : (x y : Answer Entry) → siteFirst x y ≡ absent → (x ≡ absent) × (y ≡ absent)
+neither (refused n p i) y e = absurd (let z : _≡_ {A = ℕ} 0 1 = cc in omega arith)
+neither (given a) (refused n p i) e = absurd (let z : _≡_ {A = ℕ} 0 1 = cc in omega arith)
+neither (given a) (given b) e = absurd (let z : _≡_ {A = ℕ} 0 1 = cc in omega arith)
+neither (given a) absent e = absurd (let z : _≡_ {A = ℕ} 0 1 = cc in omega arith)
+neither absent (refused n p i) e = absurd (let z : _≡_ {A = ℕ} 0 1 = cc in omega arith)
+neither absent (given b) e = absurd (let z : _≡_ {A = ℕ} 0 1 = cc in omega arith)
+neither absent absent e = (refl, refl)
+
+-- a refusal of the template's is told, whatever the site has
+refuses : (ty : ℕ) (best : Answer Entry) (ds : List Entry) (n p i : ℕ) → siteFirst best (refused n p i) ≡ refused n p i
+    → siteFirst (lastOf ty best ds) (refused n p i) ≡ refused n p i
+unfolding lastOf
+refuses ty best [] n p i h = h
+refuses ty best (e ∷ ds) n p i h =
+    refuses ty (pick (eqb (e .ty) ty) (given e) best) ds n p i
+    (pick-all (λ (x : Answer Entry). siteFirst x (refused n p i) ≡ refused n p i) (eqb (e .ty) ty) (given e) best (λ k. refl) (λ k. h))
+
+-- beside a template that has none, the site's answer
+alone : {A : Type 0} (x : Answer A) → siteFirst x absent ≡ onGiven site x
+alone (given a) = refl
+alone absent = refl
+alone (refused n p i) = refl
+
+alone-spot : (x : Answer Entry) → onGiven (onSupply spot) (onGiven site x) ≡ onGiven site (onGiven spot x)
+alone-spot (given a) = refl
+alone-spot absent = refl
+alone-spot (refused n p i) = refl
+
+alone-value : (x : Answer Entry) → valueOr (onGiven whichever (onGiven site x)) ≡ valueOr x
+alone-value (given a) = refl
+alone-value absent = refl
+alone-value (refused n p i) = refl
+
+module _ (ty : ℕ) (d t : List ℕ) where
+  -- ---- both are framed: whose entry it is
+  module _ (ds ts : List Entry) (site-is : framed 0 d ≡ given ds) (template-is : framed 1 t ≡ given ts) where
+    by-entries : supplied ty d t ≡ siteFirst (lastOf ty absent ds) (lastOf ty absent ts)
+    unfolding supplied lastEntry
+    by-entries = rw (site-is, template-is)
+
+    -- the site's last of the type wherever it has one, be its value empty or not
+    pub site-supplies : (xs : List Entry) (e : Entry) (ys : List Entry) → ds ≡ xs ++ e ∷ ys → e .ty ≡ ty → Every (Other ty) ys
+        → supplied ty d t ≡ given (site e)
+    site-supplies xs e ys is of-type others =
+        by-entries ∙ rw (is, last-counts ty absent xs e ys of-type others) (keeps e ty absent ts refl)
+
+    -- else the template's
+    pub template-supplies : Every (Other ty) ds → (xs : List Entry) (e : Entry) (ys : List Entry) → ts ≡ xs ++ e ∷ ys → e .ty ≡ ty
+        → Every (Other ty) ys → supplied ty d t ≡ given (template e)
+    template-supplies none xs e ys is of-type others =
+        by-entries ∙ rw (over-others ty absent ds none, is, last-counts ty absent xs e ys of-type others)
+
+    -- absent where neither has one,
+    pub neither-absent : Every (Other ty) ds → Every (Other ty) ts → supplied ty d t ≡ absent
+    neither-absent none-there none-here = by-entries ∙ rw (over-others ty absent ds none-there, over-others ty absent ts none-here)
+
+    -- and only there
+    pub absent-neither : supplied ty d t ≡ absent → Every (Other ty) ds × Every (Other ty) ts
+    absent-neither e =
+        let none = neither _ _ (sym by-entries ∙ e) in
+        (absent-none ty ds (none .0), absent-none ty ts (none .1))
+
+  -- ---- one of them is not: the site's refusal, then the template's, whatever the site has
+  pub site-refused : (n p i : ℕ) → framed 0 d ≡ refused n p i → supplied ty d t ≡ refused n p i
+  unfolding supplied lastEntry
+  site-refused n p i e = rw e
+
+  pub template-refused : (ds : List Entry) (n p i : ℕ) → framed 0 d ≡ given ds → framed 1 t ≡ refused n p i → supplied ty d t ≡ refused n p i
+  unfolding supplied lastEntry
+  template-refused ds n p i e f = rw (e, f) (refuses ty absent ds n p i refl)
+
+  -- ---- a template without the type: the plain query, whatever the site's bytes
+  module _ (ts : List Entry) (template-is : framed 1 t ≡ given ts) (none : Every (Other ty) ts) where
+    pub plain : supplied ty d t ≡ onGiven site (lastEntry ty 0 d)
+    unfolding supplied lastEntry
+    plain = rw (template-is, over-others ty absent ts none) (alone (thenDo (framed 0 d) (lastOf ty absent)))
+
+    pub plain-spot : suppliedSpot ty d t ≡ onGiven site (lastSpot ty 0 d)
+    unfolding suppliedSpot lastSpot
+    plain-spot = ap (onGiven (onSupply spot)) plain ∙ alone-spot (lastEntry ty 0 d)
+
+    pub plain-value : suppliedValue ty d t ≡ lastValue ty d
+    unfolding suppliedValue lastValue
+    plain-value = ap (λ (x : Answer (Supply Entry)). valueOr (onGiven whichever x)) plain ∙ alone-value (lastEntry ty 0 d)
