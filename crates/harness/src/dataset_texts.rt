@@ -1,4 +1,4 @@
-// The texts of datasets, of their values and of change lists: `q.KIND`, `v.KIND`, `wdelay`, `due`, `ts.parts`, `ops`.
+// The texts of datasets, of their values and of change lists: `q.KIND`, `v.KIND`, `wdelay`, `due`, `wdelay30`, `due30`, `ts.parts`, `ops`.
 mod lists;
 mod masks;
 mod queries;

@@ -1,9 +1,9 @@
-// The texts of entries: `frame`, `one`, `raw`.
+// The texts of entries: `frame`, `one`, `raw`, `template`.
 use crate::requests::Values;
 use crate::requests::asks;
 use crate::texts::Room;
 use crate::texts::put_absent;
-use crate::texts::put_bytes_value;
+use crate::texts::put_hex;
 use crate::texts::put_marked;
 use crate::texts::put_number;
 use crate::texts::put_numbers;
@@ -11,6 +11,8 @@ use crate::texts::put_one;
 use crate::texts::put_refusal;
 use crate::texts::put_text;
 use crate::texts::put_three;
+use house_template::Supplied;
+use house_template::supplied_value;
 use tlv::Counted;
 use tlv::Frame;
 use tlv::Parsed;
@@ -50,8 +52,10 @@ pub(crate) fn put_frame(text: &mut Room, at: usize, s: &[u8]) -> usize {
     }
 }
 
-fn put_part(text: &mut Room, at: usize, part: &[u8], start: usize) -> usize {
-    let bytes = put_bytes_value(text, at, part);
+// A part after the words of its answer, and where it begins.
+fn put_part(text: &mut Room, at: usize, words: &[u8], part: &[u8], start: usize) -> usize {
+    let word = put_text(text, at, words);
+    let bytes = put_hex(text, word, part);
     let sign = put_text(text, bytes, b" @");
     put_number(text, sign, start as u64)
 }
@@ -63,9 +67,27 @@ fn put_raw(text: &mut Room, at: usize, ty: u8, s: &[u8]) -> usize {
             place: _,
             start,
             len: _,
-        } => put_part(text, at, tlv_last::last_value(s, ty), start),
+        } => put_part(text, at, b"ok ", tlv_last::last_value(s, ty), start),
         Found::Absent => put_absent(text, at),
         Found::Refused(r) => put_refusal(text, at, r),
+    }
+}
+
+// The same out of a dataset, 0, or else out of the house template, 1.
+fn put_supplied(text: &mut Room, at: usize, ty: u8, s: &[u8], house: &[u8]) -> usize {
+    match house_template::supplied_entry(s, house, ty) {
+        Supplied::Site {
+            place: _,
+            start,
+            len: _,
+        } => put_part(text, at, b"ok 0 ", supplied_value(s, house, ty), start),
+        Supplied::Template {
+            place: _,
+            start,
+            len: _,
+        } => put_part(text, at, b"ok 1 ", supplied_value(s, house, ty), start),
+        Supplied::Absent => put_absent(text, at),
+        Supplied::Refused(r) => put_refusal(text, at, r),
     }
 }
 
@@ -93,6 +115,15 @@ pub(crate) fn answer(request: &Room, v: Values, text: &mut Room, at: usize) -> u
     }
     if asks(request, b"raw tb") {
         return put_raw(text, at, v.type_byte(1), v.bytes(request, 2));
+    }
+    if asks(request, b"template tbb") {
+        return put_supplied(
+            text,
+            at,
+            v.type_byte(1),
+            v.bytes(request, 2),
+            v.bytes(request, 3),
+        );
     }
     at
 }

@@ -18,6 +18,7 @@ pub mod DatasetEdits
 pub mod ChangeLists
 pub mod Changes
 pub mod Delay
+pub mod HouseTemplate
 pub mod NetworkFraming
 pub mod NetworkData
 pub mod NetworkWalker

@@ -1,4 +1,5 @@
 pub mod Delay
+pub mod Template
 pub mod Diag
 pub mod NetworkData
 pub mod Pairing

@@ -13,8 +13,8 @@ struct Band {
 }
 
 /// Lines that a size asks for, those about 255 bytes or 128 entries, and all others.
-const LONG: Band = Band { over: 2_000, most_characters: 1_670_000 };
-const MIDDLING: Band = Band { over: 300, most_characters: 270_000 };
+const LONG: Band = Band { over: 2_000, most_characters: 1_740_000 };
+const MIDDLING: Band = Band { over: 300, most_characters: 200_000 };
 const SHORT: Band = Band { over: 0, most_characters: 250_000 };
 
 const MOST_LONG_LINES: usize = 100;
