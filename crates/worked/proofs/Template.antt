@@ -5,7 +5,7 @@ use mathlib.Core.List.{List, [], _∷_}
 use Prim.Native.Nat.{ℕ}
 use Rattle.refusal.specs.Answer.{Answer, given, absent, refused}
 use Rattle.refusal.specs.Every.{Every}
-use Rattle.tlv.specs.Entries.{valued, first, step, frames, framing}
+use Rattle.tlv.specs.Entries.{valued, long, first, step, frames, framing}
 use Rattle.tlv.specs.Limits.{limited, framed}
 use Rattle.tlv_last.specs.Last.{lastOf, lastEntry, Spot, spotAt}
 use Rattle.house_template.specs.Template.{Supply, site, template, supplied, suppliedSpot, suppliedValue}
@@ -35,5 +35,5 @@ lines =
     ∷ []
 
 pub worked : Every (λ (l : Line). (suppliedSpot 0 (l .dataset) (l .house) ≡ l .spot) × (suppliedValue 0 (l .dataset) (l .house) ≡ l .value)) lines
-unfolding suppliedSpot suppliedValue supplied lastEntry lastOf framed limited framing frames step first valued
+unfolding suppliedSpot suppliedValue supplied lastEntry lastOf framed limited framing frames step first long valued
 worked = ((refl, refl), ((refl, refl), ((refl, refl), ((refl, refl), ((refl, refl), ((refl, refl), tt))))))
