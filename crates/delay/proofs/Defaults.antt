@@ -11,7 +11,7 @@ use Rattle.wire.specs.Be.{be}
 use Rattle.dataset.specs.Queries.{query}
 use Rattle.delay.specs.Delay.{mostNow, orElse, delayOr, seconds, dueOr, workingDelay, workingDelayHalfMinute, dueSecond, dueSecondHalfMinute}
 
--- "Working delay: the delay timer, or 30,000 ms where absent. Due second: now, in seconds, plus the working delay over 1,000, rounded up"
+-- Document 01: "Working delay: the delay timer, or 30,000 ms where absent. Due second: now, in seconds, plus the working delay over 1,000, rounded up"; and its 14
 abbrev pub delay01 : List ℕ → Answer ℕ
 delay01 s = orElse 30000 (query 52 be s)
 

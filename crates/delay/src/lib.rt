@@ -10,7 +10,7 @@ ghost use Rattle.delay.specs.Answers.{workingAnswer, dueAnswer};
 // The working delay of a dataset without a delay timer, in milliseconds.
 pub const DEFAULT_DELAY: u32 = 300000;
 
-// What that was before, for the college handset that asks for it by name.
+// Half a minute, in milliseconds: what that was before, for the college handset, which asks for it by name.
 pub const HALF_MINUTE: u32 = 30000;
 
 // The latest "now", in seconds: those of a timestamp have 48 bits.
@@ -51,7 +51,7 @@ fn delay_or(dataset: &[u8], default: u32) -> WorkingDelay
     }
 }
 
-// The second at which the dataset is due, where the clock is the second that it is now.
+// The second at which the dataset is due by the delay that has this default.
 fn due_or(dataset: &[u8], default: u32, clock: u64) -> DueSecond
     ensures { λ r. ⌜ dueAnswer r ≡ dueOr default (now (dataset .entry)) clock ⌝ }
 {
@@ -91,7 +91,7 @@ pub fn due_second(dataset: &[u8], clock: u64) -> DueSecond
     due_or(dataset, DEFAULT_DELAY, clock)
 }
 
-// The same by `working_delay_half_minute`. Refusals: those of `due_second`.
+// The due second by the delay of `working_delay_half_minute`. Refusals: those of `due_second`.
 pub fn due_second_half_minute(dataset: &[u8], clock: u64) -> DueSecond
     ensures { λ r. ⌜ dueAnswer r ≡ dueSecondHalfMinute (now (dataset .entry)) clock ⌝ }
 {

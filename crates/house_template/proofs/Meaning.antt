@@ -11,7 +11,7 @@ use Rattle.laws.proofs.Tests.{pick-all}
 use Rattle.tlv.specs.Entries.{Entry}
 use Rattle.tlv.specs.Limits.{framed}
 use Rattle.tlv_last.specs.Last.{Spot, spot, valueOr, lastOf, lastEntry, lastSpot, lastValue}
-use Rattle.tlv_last.proofs.Lasts.{Other, over-others, last-counts, absent-none}
+use Rattle.tlv_last.proofs.Lasts.{Other, over-others, last-counts, Lacks, absent-lacks}
 use Rattle.house_template.specs.Template.{Supply, site, template, whichever, onSupply, siteFirst, supplied, suppliedSpot, suppliedValue}
 
 -- a template that is not refused leaves what the site has
@@ -58,7 +58,21 @@ alone-value (given a) = refl
 alone-value absent = refl
 alone-value (refused n p i) = refl
 
+-- where it lies is absent only where there is nothing
+spot-absent : (x : Answer (Supply Entry)) → onGiven (onSupply spot) x ≡ absent → x ≡ absent
+spot-absent (given e) h = absurd (let z : _≡_ {A = ℕ} 0 1 = cc in omega arith)
+spot-absent absent h = refl
+spot-absent (refused n p i) h = absurd (let z : _≡_ {A = ℕ} 0 1 = cc in omega arith)
+
+-- THE THEOREMS, of what the two calls give: `suppliedSpot` and `suppliedValue`
 module _ (ty : ℕ) (d t : List ℕ) where
+  abbrev pub Gives : Answer (Supply Spot) → (value : List ℕ) → Type 0
+  Gives x v = (suppliedSpot ty d t ≡ x) × (suppliedValue ty d t ≡ v)
+
+  gives : (x : Answer (Supply Entry)) → supplied ty d t ≡ x → Gives (onGiven (onSupply spot) x) (valueOr (onGiven whichever x))
+  unfolding suppliedSpot suppliedValue
+  gives x e = (ap (onGiven (onSupply spot)) e, ap (λ (y : Answer (Supply Entry)). valueOr (onGiven whichever y)) e)
+
   -- ---- both are framed: whose entry it is
   module _ (ds ts : List Entry) (site-is : framed 0 d ≡ given ds) (template-is : framed 1 t ≡ given ts) where
     by-entries : supplied ty d t ≡ siteFirst (lastOf ty absent ds) (lastOf ty absent ts)
@@ -67,45 +81,43 @@ module _ (ty : ℕ) (d t : List ℕ) where
 
     -- the site's last of the type wherever it has one, be its value empty or not
     pub site-supplies : (xs : List Entry) (e : Entry) (ys : List Entry) → ds ≡ xs ++ e ∷ ys → e .ty ≡ ty → Every (Other ty) ys
-        → supplied ty d t ≡ given (site e)
+        → Gives (given (site (spot e))) (e .value)
     site-supplies xs e ys is of-type others =
-        by-entries ∙ rw (is, last-counts ty absent xs e ys of-type others) (keeps e ty absent ts refl)
+        gives (given (site e)) (by-entries ∙ rw (is, last-counts ty absent xs e ys of-type others) (keeps e ty absent ts refl))
 
     -- else the template's
     pub template-supplies : Every (Other ty) ds → (xs : List Entry) (e : Entry) (ys : List Entry) → ts ≡ xs ++ e ∷ ys → e .ty ≡ ty
-        → Every (Other ty) ys → supplied ty d t ≡ given (template e)
+        → Every (Other ty) ys → Gives (given (template (spot e))) (e .value)
     template-supplies none xs e ys is of-type others =
-        by-entries ∙ rw (over-others ty absent ds none, is, last-counts ty absent xs e ys of-type others)
+        gives (given (template e)) (by-entries ∙ rw (over-others ty absent ds none, is, last-counts ty absent xs e ys of-type others))
 
-    -- absent where neither has one,
-    pub neither-absent : Every (Other ty) ds → Every (Other ty) ts → supplied ty d t ≡ absent
-    neither-absent none-there none-here = by-entries ∙ rw (over-others ty absent ds none-there, over-others ty absent ts none-here)
+    -- absent where neither has one
+    pub neither-absent : Every (Other ty) ds → Every (Other ty) ts → Gives absent []
+    neither-absent none-there none-here = gives absent (by-entries ∙ rw (over-others ty absent ds none-there, over-others ty absent ts none-here))
 
-    -- and only there
-    pub absent-neither : supplied ty d t ≡ absent → Every (Other ty) ds × Every (Other ty) ts
-    absent-neither e =
-        let none = neither _ _ (sym by-entries ∙ e) in
-        (absent-none ty ds (none .0), absent-none ty ts (none .1))
+  -- and only there: both are framed, and no entry of either has the type
+  pub absent-neither : suppliedSpot ty d t ≡ absent → Lacks ty 0 d × Lacks ty 1 t
+  unfolding suppliedSpot supplied
+  absent-neither e =
+      let none = neither (lastEntry ty 0 d) (lastEntry ty 1 t) (spot-absent _ e) in
+      (absent-lacks ty 0 d (none .0), absent-lacks ty 1 t (none .1))
 
-  -- ---- one of them is not: the site's refusal, then the template's, whatever the site has
-  pub site-refused : (n p i : ℕ) → framed 0 d ≡ refused n p i → supplied ty d t ≡ refused n p i
+  -- ---- one of them is not framed: the site's refusal, then the template's, whatever the site has
+  pub site-refused : (n p i : ℕ) → framed 0 d ≡ refused n p i → Gives (refused n p i) []
   unfolding supplied lastEntry
-  site-refused n p i e = rw e
+  site-refused n p i e = gives (refused n p i) (rw e)
 
-  pub template-refused : (ds : List Entry) (n p i : ℕ) → framed 0 d ≡ given ds → framed 1 t ≡ refused n p i → supplied ty d t ≡ refused n p i
+  pub template-refused : (ds : List Entry) (n p i : ℕ) → framed 0 d ≡ given ds → framed 1 t ≡ refused n p i → Gives (refused n p i) []
   unfolding supplied lastEntry
-  template-refused ds n p i e f = rw (e, f) (refuses ty absent ds n p i refl)
+  template-refused ds n p i e f = gives (refused n p i) (rw (e, f) (refuses ty absent ds n p i refl))
 
   -- ---- a template without the type: the plain query, whatever the site's bytes
-  module _ (ts : List Entry) (template-is : framed 1 t ≡ given ts) (none : Every (Other ty) ts) where
-    pub plain : supplied ty d t ≡ onGiven site (lastEntry ty 0 d)
-    unfolding supplied lastEntry
-    plain = rw (template-is, over-others ty absent ts none) (alone (thenDo (framed 0 d) (lastOf ty absent)))
+  plain-entry : Lacks ty 1 t → supplied ty d t ≡ onGiven site (lastEntry ty 0 d)
+  unfolding supplied lastEntry
+  plain-entry lacks = rw (lacks .is, over-others ty absent (lacks .entries) (lacks .none)) (alone (thenDo (framed 0 d) (lastOf ty absent)))
 
-    pub plain-spot : suppliedSpot ty d t ≡ onGiven site (lastSpot ty 0 d)
-    unfolding suppliedSpot lastSpot
-    plain-spot = ap (onGiven (onSupply spot)) plain ∙ alone-spot (lastEntry ty 0 d)
-
-    pub plain-value : suppliedValue ty d t ≡ lastValue ty d
-    unfolding suppliedValue lastValue
-    plain-value = ap (λ (x : Answer (Supply Entry)). valueOr (onGiven whichever x)) plain ∙ alone-value (lastEntry ty 0 d)
+  pub plain : Lacks ty 1 t → Gives (onGiven site (lastSpot ty 0 d)) (lastValue ty d)
+  unfolding lastSpot lastValue
+  plain lacks =
+      let g = gives (onGiven site (lastEntry ty 0 d)) (plain-entry lacks) in
+      (g .0 ∙ alone-spot (lastEntry ty 0 d), g .1 ∙ alone-value (lastEntry ty 0 d))

@@ -1,6 +1,6 @@
 -- Where the value lies that is supplied: what was found in the two, and the part of the one that supplies it.
 -- Assumes nothing.
-use mathlib.Core.Path.{_≡_, refl, sym, ap, _∙_, subst}
+use mathlib.Core.Path.{_≡_, refl, sym, subst}
 use mathlib.Core.List.{List, [], _∷_}
 use mathlib.Core.Logic.{⊎-elim}
 use Prim.Native.Nat.{ℕ, _+_, _≤_}
@@ -10,7 +10,7 @@ use types.Run.{OneOf}
 use denote.Enum.Declared.{tagOf}
 use Rattle.refusal.specs.Answer.{Answer, given, absent, refused, onGiven}
 use Rattle.tlv.specs.Entries.{Entry}
-use Rattle.tlv_last.specs.Last.{Spot, spotAt, spot, valueOr, lastEntry, lastSpot}
+use Rattle.tlv_last.specs.Last.{Spot, spot, valueOr, lastEntry, lastSpot}
 use Rattle.tlv_last.specs.Answers.{foundAnswer}
 use Rattle.tlv_last.specs.declared.Found.{Found}
 use Rattle.tlv_last.specs.declared.Found.the-variants.{At, Absent, Refused}

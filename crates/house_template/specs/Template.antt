@@ -18,12 +18,14 @@ abbrev pub whichever : {A : Type 0} → Supply A → A
 whichever (site a) = a
 whichever (template a) = a
 
+-- f of what is supplied, by the same of the two
 abbrev pub onSupply : {A B : Type 0} → (A → B) → Supply A → Supply B
 onSupply f (site a) = site (f a)
 onSupply f (template a) = template (f a)
 
--- "the site's first": its refusal, then the template's; what the site has, then what the template has
-abbrev pub siteFirst : {A : Type 0} → (site template : Answer A) → Answer (Supply A)
+-- "the site's first": its refusal, then the template's; what the site has, then what the template has. The template's refusal is given even
+-- where the site has the value: "Refusals: 1 to 3 for the site's bytes, then the template's", with no condition
+abbrev pub siteFirst : {A : Type 0} → (ofSite ofTemplate : Answer A) → Answer (Supply A)
 siteFirst (refused n p i) t = refused n p i
 siteFirst (given a) (refused n p i) = refused n p i
 siteFirst (given a) (given b) = given (site a)
@@ -40,6 +42,6 @@ supplied ty d t = siteFirst (lastEntry ty 0 d) (lastEntry ty 1 t)
 unfoldable pub suppliedSpot : (ty : ℕ) → (dataset template : List ℕ) → Answer (Supply Spot)
 suppliedSpot ty d t = onGiven (onSupply spot) (supplied ty d t)
 
--- "the value's bytes", and no bytes where neither supplies it
+-- "the value's bytes", and no bytes where neither has the type or one of the two is refused
 unfoldable pub suppliedValue : (ty : ℕ) → (dataset template : List ℕ) → List ℕ
 suppliedValue ty d t = valueOr (onGiven whichever (supplied ty d t))

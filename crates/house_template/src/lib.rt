@@ -24,11 +24,11 @@ pub enum Supplied {
     Refused(Refusal),
 }
 
-// The site's entry.
+// The site's entry, whatever the length of its value: "An empty value in the site's dataset still counts as present" (document 02).
 fn from_site(place: usize, start: usize, len: usize) -> Supplied
     ensures { λ r. ⌜ suppliedAnswer r ≡ given (site (spotAt place start len)) ⌝ }
 {
-    // an empty value counts as present
+    // the length is not asked
     Supplied::Site {
         place: place,
         start: start,
@@ -36,7 +36,7 @@ fn from_site(place: usize, start: usize, len: usize) -> Supplied
     }
 }
 
-// What was found in the template, where the site has no entry.
+// What was found in the house template, where the site has no entry.
 fn from_template(house: Found) -> Supplied
     ensures { λ r. ⌜ suppliedAnswer r ≡ siteFirst absent (foundAnswer house) ⌝ }
 {
@@ -51,7 +51,7 @@ fn from_template(house: Found) -> Supplied
     }
 }
 
-// What was found in the site's dataset, or else in the template. A refusal comes first, and the site's before the template's.
+// What was found in the site's dataset, or else in the house template. A refusal comes first, and the site's before the template's.
 fn site_first(site: Found, house: Found) -> Supplied
     ensures { λ r. ⌜ suppliedAnswer r ≡ siteFirst (foundAnswer site) (foundAnswer house) ⌝ }
 {

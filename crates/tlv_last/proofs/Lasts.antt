@@ -7,14 +7,15 @@ use mathlib.Core.List.{List, [], _∷_, _++_}
 use Prim.Native.Nat.{ℕ, _+_, _≤_}
 use native.Mathlib.Omega.{arith}
 use lib.ListN.{length, take, drop}
-use lib.Dec.{eqb}
+use lib.Dec.{eqb, ltb}
 use borrow.Author.Tests.{eq-eqb, ne-eqb, eqb-false}
+use Rattle.refusal.specs.Sizes.{mostBytes, mostEntries}
 use Rattle.refusal.specs.Answer.{pick, Answer, given, absent, refused, thenDo, onGiven}
 use Rattle.laws.proofs.Tests.{by-test, pick-all}
 use Rattle.refusal.specs.Every.{Every}
 use Rattle.laws.proofs.Parts.{length-part}
-use Rattle.tlv.specs.Entries.{Entry, entry}
-use Rattle.tlv.specs.Limits.{framed}
+use Rattle.tlv.specs.Entries.{Entry, entry, Stop, clean, cutAt, framing}
+use Rattle.tlv.specs.Limits.{placeOfNext, limited, framed}
 use Rattle.tlv_last.specs.Last.{lastOf, lastEntry, Spot, spotAt, spot, laterOf, lastSpot, valueOr, lastValue}
 use Rattle.tlv.proofs.Walks.{Lies, framing-lies}
 use Rattle.tlv.proofs.Tally.{Holds, framed-holds}
@@ -25,12 +26,13 @@ use Rattle.tlv.proofs.Tally.{Holds, framed-holds}
 abbrev pub Other : ℕ → Entry → Type 0
 Other ty e = e .ty ≡ ty → ⊥
 
--- no entry after the last of its type changes what is found, and none before it,
+-- entries of other types change nothing,
 pub over-others : (ty : ℕ) (best : Answer Entry) (es : List Entry) → Every (Other ty) es → lastOf ty best es ≡ best
 unfolding lastOf
 over-others ty best [] h = refl
 over-others ty best (e ∷ es) h = rw (ne-eqb (e .ty) ty (h .0)) (over-others ty best es (h .1))
 
+-- so that the last of the type counts, whatever stands before it;
 pub last-counts : (ty : ℕ) (best : Answer Entry) (xs : List Entry) (e : Entry) (ys : List Entry) → e .ty ≡ ty → Every (Other ty) ys
     → lastOf ty best (xs ++ e ∷ ys) ≡ given e
 unfolding lastOf
@@ -39,20 +41,49 @@ last-counts ty best [] e ys is h =
     ap (λ (x : Answer Entry). lastOf ty x ys) this ∙ over-others ty (given e) ys h
 last-counts ty best (x ∷ xs) e ys is h = last-counts ty (pick (eqb (x .ty) ty) (given x) best) xs e ys is h
 
--- and what is found stays found, so that "absent" tells that there is none
+-- and what is found stays found, so that "absent" tells that there is none: bytes that are framed, and no entry of the type among them
 found-stays : (ty : ℕ) (e : Entry) (es : List Entry) → lastOf ty (given e) es ≡ absent → ⊥
 unfolding lastOf
 found-stays ty e [] h = let z : _≡_ {A = ℕ} 0 1 = cc in omega arith
 found-stays ty e (x ∷ es) h =
     by-test (eqb (x .ty) ty) (λ t. found-stays ty x es (rw t at h)) (λ t. found-stays ty e es (rw t at h))
 
-pub absent-none : (ty : ℕ) (es : List Entry) → lastOf ty absent es ≡ absent → Every (Other ty) es
+absent-none : (ty : ℕ) (es : List Entry) → lastOf ty absent es ≡ absent → Every (Other ty) es
 unfolding lastOf
 absent-none ty [] h = tt
 absent-none ty (e ∷ es) h =
     by-test (eqb (e .ty) ty)
     (λ t. absurd (found-stays ty e es (rw t at h)))
     (λ t. (eqb-false (e .ty) ty t, absent-none ty es (rw t at h)))
+
+limited-tells : (i : ℕ) (st : Stop) (es : List Entry) → limited i st es ≡ absent → ⊥
+unfolding limited
+limited-tells i (cutAt p) es h = let z : _≡_ {A = ℕ} 0 1 = cc in omega arith
+limited-tells i clean es h =
+    by-test (ltb mostEntries (length es))
+    (λ t. let k : _≡_ {A = Answer (List Entry)} (refused 3 (placeOfNext es) i) absent = rw t at h in let z : _≡_ {A = ℕ} 0 1 = cc in omega arith)
+    (λ t. let k : given es ≡ absent = rw t at h in let z : _≡_ {A = ℕ} 0 1 = cc in omega arith)
+
+framed-tells : (i : ℕ) (s : List ℕ) → framed i s ≡ absent → ⊥
+unfolding framed
+framed-tells i s h =
+    by-test (ltb mostBytes (length s))
+    (λ t. let k : _≡_ {A = Answer (List Entry)} (refused 1 0 i) absent = rw t at h in let z : _≡_ {A = ℕ} 0 1 = cc in omega arith)
+    (λ t. limited-tells i (framing s .stop) (framing s .entries) (rw t at h))
+
+pub record Lacks (ty i : ℕ) (s : List ℕ) : Type 0 where
+  pub entries : List Entry
+  pub is : framed i s ≡ given entries
+  pub none : Every (Other ty) entries
+
+pub absent-lacks : (ty i : ℕ) (s : List ℕ) → lastEntry ty i s ≡ absent → Lacks ty i s
+unfolding lastEntry
+absent-lacks ty i s h = by (framed i s) refl h
+  where
+    by : (a : Answer (List Entry)) → framed i s ≡ a → thenDo a (lastOf ty absent) ≡ absent → Lacks ty i s
+    by (given es) is h = record { entries = es; is = is; none = absent-none ty es h }
+    by absent is h = absurd (framed-tells i s is)
+    by (refused n p k) is h = absurd (let z : _≡_ {A = ℕ} 0 1 = cc in omega arith)
 
 -- ---- where it lies
 

@@ -13,12 +13,12 @@ use Rattle.house_template.specs.Template.{Supply, site, template, supplied, sup
 -- the site's dataset, the template, where the value of type 0 lies, and its bytes
 pub record Line : Type 0 where
   pub dataset : List ℕ
-  pub house : List ℕ
+  pub houseTemplate : List ℕ
   pub spot : Answer (Supply Spot)
   pub value : List ℕ
 
 abbrev line : List ℕ → List ℕ → Answer (Supply Spot) → List ℕ → Line
-line d t x v = record { dataset = d; house = t; spot = x; value = v }
+line d t x v = record { dataset = d; houseTemplate = t; spot = x; value = v }
 
 abbrev pub lines : List Line
 lines =
@@ -34,6 +34,6 @@ lines =
     ∷ line (0x03 ∷ 0x00 ∷ 0x00 ∷ []) (0x00 ∷ []) (refused 2 2 0) []
     ∷ []
 
-pub worked : Every (λ (l : Line). (suppliedSpot 0 (l .dataset) (l .house) ≡ l .spot) × (suppliedValue 0 (l .dataset) (l .house) ≡ l .value)) lines
+pub worked : Every (λ (l : Line). (suppliedSpot 0 (l .dataset) (l .houseTemplate) ≡ l .spot) × (suppliedValue 0 (l .dataset) (l .houseTemplate) ≡ l .value)) lines
 unfolding suppliedSpot suppliedValue supplied lastEntry lastOf framed limited framing frames step first long valued
 worked = ((refl, refl), ((refl, refl), ((refl, refl), ((refl, refl), ((refl, refl), ((refl, refl), tt))))))
