@@ -41,7 +41,7 @@ last-counts ty best [] e ys is h =
     ap (λ (x : Answer Entry). lastOf ty x ys) this ∙ over-others ty (given e) ys h
 last-counts ty best (x ∷ xs) e ys is h = last-counts ty (pick (eqb (x .ty) ty) (given x) best) xs e ys is h
 
--- and what is found stays found, so that "absent" tells that there is none: bytes that are framed, and no entry of the type among them
+-- and what is found stays found, so that "absent" tells that there is none
 found-stays : (ty : ℕ) (e : Entry) (es : List Entry) → lastOf ty (given e) es ≡ absent → ⊥
 unfolding lastOf
 found-stays ty e [] h = let z : _≡_ {A = ℕ} 0 1 = cc in omega arith
@@ -71,6 +71,7 @@ framed-tells i s h =
     (λ t. let k : _≡_ {A = Answer (List Entry)} (refused 1 0 i) absent = rw t at h in let z : _≡_ {A = ℕ} 0 1 = cc in omega arith)
     (λ t. limited-tells i (framing s .stop) (framing s .entries) (rw t at h))
 
+-- bytes that are framed, and no entry of them has the type
 pub record Lacks (ty i : ℕ) (s : List ℕ) : Type 0 where
   pub entries : List Entry
   pub is : framed i s ≡ given entries
