@@ -1,27 +1,16 @@
 -- What the query says, held against request Four's sentences: whose entry it is, by the entries of the two; whose refusal; and the plain query.
 -- Assumes nothing.
-use mathlib.Core.Path.{_≡_, refl, sym, ap, _∙_}
+use mathlib.Core.Path.{_≡_, refl, ap, _∙_}
 use mathlib.Core.List.{List, [], _∷_, _++_}
 use Prim.Native.Nat.{ℕ}
 use native.Mathlib.Omega.{arith}
-use lib.Dec.{eqb}
-use Rattle.refusal.specs.Answer.{pick, Answer, given, absent, refused, onGiven, thenDo}
+use Rattle.refusal.specs.Answer.{Answer, given, absent, refused, onGiven, thenDo}
 use Rattle.refusal.specs.Every.{Every}
-use Rattle.laws.proofs.Tests.{pick-all}
 use Rattle.tlv.specs.Entries.{Entry}
 use Rattle.tlv.specs.Limits.{framed}
 use Rattle.tlv_last.specs.Last.{Spot, spot, valueOr, lastOf, lastEntry, lastSpot, lastValue}
-use Rattle.tlv_last.proofs.Lasts.{Other, over-others, last-counts, Lacks, absent-lacks}
+use Rattle.tlv_last.proofs.Lasts.{Other, over-others, last-counts, found-all, Lacks, absent-lacks}
 use Rattle.house_template.specs.Template.{Supply, site, template, whichever, onSupply, siteFirst, supplied, suppliedSpot, suppliedValue}
-
--- a template that is not refused leaves what the site has
-keeps : (a : Entry) (ty : ℕ) (best : Answer Entry) (ts : List Entry) → siteFirst (given a) best ≡ given (site a)
-    → siteFirst (given a) (lastOf ty best ts) ≡ given (site a)
-unfolding lastOf
-keeps a ty best [] h = h
-keeps a ty best (e ∷ ts) h =
-    keeps a ty (pick (eqb (e .ty) ty) (given e) best) ts
-    (pick-all (λ (x : Answer Entry). siteFirst (given a) x ≡ given (site a)) (eqb (e .ty) ty) (given e) best (λ k. refl) (λ k. h))
 
 -- nothing is supplied only where neither has anything
 neither : (x y : Answer Entry) → siteFirst x y ≡ absent → (x ≡ absent) × (y ≡ absent)
@@ -32,15 +21,6 @@ neither (given a) absent e = absurd (let z : _≡_ {A = ℕ} 0 1 = cc in omega a
 neither absent (refused n p i) e = absurd (let z : _≡_ {A = ℕ} 0 1 = cc in omega arith)
 neither absent (given b) e = absurd (let z : _≡_ {A = ℕ} 0 1 = cc in omega arith)
 neither absent absent e = (refl, refl)
-
--- a refusal of the template's is told, whatever the site has
-refuses : (ty : ℕ) (best : Answer Entry) (ds : List Entry) (n p i : ℕ) → siteFirst best (refused n p i) ≡ refused n p i
-    → siteFirst (lastOf ty best ds) (refused n p i) ≡ refused n p i
-unfolding lastOf
-refuses ty best [] n p i h = h
-refuses ty best (e ∷ ds) n p i h =
-    refuses ty (pick (eqb (e .ty) ty) (given e) best) ds n p i
-    (pick-all (λ (x : Answer Entry). siteFirst x (refused n p i) ≡ refused n p i) (eqb (e .ty) ty) (given e) best (λ k. refl) (λ k. h))
 
 -- beside a template that has none, the site's answer
 alone : {A : Type 0} (x : Answer A) → siteFirst x absent ≡ onGiven site x
@@ -83,7 +63,7 @@ module _ (ty : ℕ) (d t : List ℕ) where
     pub site-supplies : (xs : List Entry) (e : Entry) (ys : List Entry) → ds ≡ xs ++ e ∷ ys → e .ty ≡ ty → Every (Other ty) ys
         → Gives (given (site (spot e))) (e .value)
     site-supplies xs e ys is of-type others =
-        gives (given (site e)) (by-entries ∙ rw (is, last-counts ty absent xs e ys of-type others) (keeps e ty absent ts refl))
+        gives (given (site e)) (by-entries ∙ rw (is, last-counts ty absent xs e ys of-type others) (found-all (λ (x : Answer Entry). siteFirst (given e) x ≡ given (site e)) (λ b. refl) ty absent ts refl))
 
     -- else the template's
     pub template-supplies : Every (Other ty) ds → (xs : List Entry) (e : Entry) (ys : List Entry) → ts ≡ xs ++ e ∷ ys → e .ty ≡ ty
@@ -109,7 +89,7 @@ module _ (ty : ℕ) (d t : List ℕ) where
 
   pub template-refused : (ds : List Entry) (n p i : ℕ) → framed 0 d ≡ given ds → framed 1 t ≡ refused n p i → Gives (refused n p i) []
   unfolding supplied lastEntry
-  template-refused ds n p i e f = gives (refused n p i) (rw (e, f) (refuses ty absent ds n p i refl))
+  template-refused ds n p i e f = gives (refused n p i) (rw (e, f) (found-all (λ (x : Answer Entry). siteFirst x (refused n p i) ≡ refused n p i) (λ a. refl) ty absent ds refl))
 
   -- ---- a template without the type: the plain query, whatever the site's bytes
   plain-entry : Lacks ty 1 t → supplied ty d t ≡ onGiven site (lastEntry ty 0 d)

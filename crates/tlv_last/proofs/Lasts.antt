@@ -41,19 +41,26 @@ last-counts ty best [] e ys is h =
     ap (λ (x : Answer Entry). lastOf ty x ys) this ∙ over-others ty (given e) ys h
 last-counts ty best (x ∷ xs) e ys is h = last-counts ty (pick (eqb (x .ty) ty) (given x) best) xs e ys is h
 
--- and what is found stays found, so that "absent" tells that there is none
-found-stays : (ty : ℕ) (e : Entry) (es : List Entry) → lastOf ty (given e) es ≡ absent → ⊥
+-- what holds of any entry, and of `best`, holds of what is found;
+pub found-all : (P : Answer Entry → Type 0) → ((e : Entry) → P (given e)) → (ty : ℕ) (best : Answer Entry) (es : List Entry) → P best → P (lastOf ty best es)
 unfolding lastOf
-found-stays ty e [] h = let z : _≡_ {A = ℕ} 0 1 = cc in omega arith
-found-stays ty e (x ∷ es) h =
-    by-test (eqb (x .ty) ty) (λ t. found-stays ty x es (rw t at h)) (λ t. found-stays ty e es (rw t at h))
+found-all P each ty best [] b = b
+found-all P each ty best (e ∷ es) b =
+    found-all P each ty (pick (eqb (e .ty) ty) (given e) best) es (pick-all P (eqb (e .ty) ty) (given e) best (λ t. each e) (λ t. b))
+
+-- and so "absent" tells that there is none
+abbrev There : Answer Entry → Type 0
+There x = x ≡ absent → ⊥
+
+given-there : (e : Entry) → There (given e)
+given-there e h = let z : _≡_ {A = ℕ} 0 1 = cc in omega arith
 
 absent-none : (ty : ℕ) (es : List Entry) → lastOf ty absent es ≡ absent → Every (Other ty) es
 unfolding lastOf
 absent-none ty [] h = tt
 absent-none ty (e ∷ es) h =
     by-test (eqb (e .ty) ty)
-    (λ t. absurd (found-stays ty e es (rw t at h)))
+    (λ t. absurd (found-all There given-there ty (given e) es (given-there e) (rw t at h)))
     (λ t. (eqb-false (e .ty) ty t, absent-none ty es (rw t at h)))
 
 limited-tells : (i : ℕ) (st : Stop) (es : List Entry) → limited i st es ≡ absent → ⊥
