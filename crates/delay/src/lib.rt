@@ -10,7 +10,7 @@ ghost use Rattle.delay.specs.Answers.{workingAnswer, dueAnswer};
 // The working delay of a dataset without a delay timer, in milliseconds.
 pub const DEFAULT_DELAY: u32 = 300000;
 
-// Half a minute, in milliseconds: what that was before, for the college handset, which asks for it by name.
+// Half a minute, in milliseconds: that default before document 02. The college handset asks for it by name.
 pub const HALF_MINUTE: u32 = 30000;
 
 // The latest "now", in seconds: those of a timestamp have 48 bits.

@@ -73,7 +73,7 @@ fn put_raw(text: &mut Room, at: usize, ty: u8, s: &[u8]) -> usize {
     }
 }
 
-// The same out of a dataset, 0, or else out of the house template, 1.
+// The same, out of the site's dataset (0) or else out of the house template (1).
 fn put_supplied<'a>(text: &mut Room, at: usize, ty: u8, s: &'a [u8], house: &'a [u8]) -> usize {
     match house_template::supplied_entry(s, house, ty) {
         Supplied::Site {

@@ -1,24 +1,23 @@
 -- The laws of `lastOf`: what it says of a list that has the type or has not; one entry more, of the type or of another, where only the spots
 -- are kept; and a value that is found is a part of the input.
 -- Assumes nothing.
-use mathlib.Core.Path.{_≡_, refl, sym, ap, _∙_}
+use mathlib.Core.Path.{_≡_, refl, sym, ap, _∙_, subst}
 use mathlib.Core.Bool.{Bool, true, false}
 use mathlib.Core.List.{List, [], _∷_, _++_}
 use Prim.Native.Nat.{ℕ, _+_, _≤_}
 use native.Mathlib.Omega.{arith}
 use lib.ListN.{length, take, drop}
-use lib.Dec.{eqb, ltb}
+use lib.Dec.{eqb}
 use borrow.Author.Tests.{eq-eqb, ne-eqb, eqb-false}
-use Rattle.refusal.specs.Sizes.{mostBytes, mostEntries}
 use Rattle.refusal.specs.Answer.{pick, Answer, given, absent, refused, thenDo, onGiven}
 use Rattle.laws.proofs.Tests.{by-test, pick-all}
 use Rattle.refusal.specs.Every.{Every}
 use Rattle.laws.proofs.Parts.{length-part}
-use Rattle.tlv.specs.Entries.{Entry, entry, Stop, clean, cutAt, framing}
-use Rattle.tlv.specs.Limits.{placeOfNext, limited, framed}
+use Rattle.tlv.specs.Entries.{Entry, entry, framing}
+use Rattle.tlv.specs.Limits.{framed}
 use Rattle.tlv_last.specs.Last.{lastOf, lastEntry, Spot, spotAt, spot, laterOf, lastSpot, valueOr, lastValue}
 use Rattle.tlv.proofs.Walks.{Lies, framing-lies}
-use Rattle.tlv.proofs.Tally.{Holds, framed-holds}
+use Rattle.tlv.proofs.Tally.{Only, only, Holds, framed-holds}
 
 -- ---- "the last entry of its type"
 
@@ -63,21 +62,6 @@ absent-none ty (e ∷ es) h =
     (λ t. absurd (found-all There given-there ty (given e) es (given-there e) (rw t at h)))
     (λ t. (eqb-false (e .ty) ty t, absent-none ty es (rw t at h)))
 
-limited-tells : (i : ℕ) (st : Stop) (es : List Entry) → limited i st es ≡ absent → ⊥
-unfolding limited
-limited-tells i (cutAt p) es h = let z : _≡_ {A = ℕ} 0 1 = cc in omega arith
-limited-tells i clean es h =
-    by-test (ltb mostEntries (length es))
-    (λ t. let k : _≡_ {A = Answer (List Entry)} (refused 3 (placeOfNext es) i) absent = rw t at h in let z : _≡_ {A = ℕ} 0 1 = cc in omega arith)
-    (λ t. let k : given es ≡ absent = rw t at h in let z : _≡_ {A = ℕ} 0 1 = cc in omega arith)
-
-framed-tells : (i : ℕ) (s : List ℕ) → framed i s ≡ absent → ⊥
-unfolding framed
-framed-tells i s h =
-    by-test (ltb mostBytes (length s))
-    (λ t. let k : _≡_ {A = Answer (List Entry)} (refused 1 0 i) absent = rw t at h in let z : _≡_ {A = ℕ} 0 1 = cc in omega arith)
-    (λ t. limited-tells i (framing s .stop) (framing s .entries) (rw t at h))
-
 -- bytes that are framed, and no entry of them has the type
 pub record Lacks (ty i : ℕ) (s : List ℕ) : Type 0 where
   pub entries : List Entry
@@ -90,7 +74,7 @@ absent-lacks ty i s h = by (framed i s) refl h
   where
     by : (a : Answer (List Entry)) → framed i s ≡ a → thenDo a (lastOf ty absent) ≡ absent → Lacks ty i s
     by (given es) is h = record { entries = es; is = is; none = absent-none ty es h }
-    by absent is h = absurd (framed-tells i s is)
+    by absent is h = absurd (subst (Only i (framing s .entries)) is (only i s))
     by (refused n p k) is h = absurd (let z : _≡_ {A = ℕ} 0 1 = cc in omega arith)
 
 -- ---- where it lies

@@ -14,6 +14,9 @@ use crate::sizes::{MOST_BYTES, MOST_ENTRIES};
 const FORKS: &[u8] = &[0x00, 0x01, 0xff];
 const FORKED: usize = strings(FORKS.len(), 0, 4);
 
+/// Beside a few in the site, the templates that are not beside them already.
+const MORE_SHAPED: usize = SHAPED - FEW_SHAPED;
+
 fn forked(number: usize) -> Vec<u8> {
     string(FORKS, 0, number)
 }
@@ -33,8 +36,11 @@ pub const TEMPLATE: Maker = Maker {
             words: |number| template_words(SHAPED_TYPE, &shaped(number / FEW_SHAPED), &shaped(number % FEW_SHAPED)),
         },
         Family {
-            size: FEW_SHAPED * SHAPED,
-            words: |number| template_words(SHAPED_TYPE, &shaped(number / SHAPED), &shaped(number % SHAPED)),
+            size: FEW_SHAPED * MORE_SHAPED,
+            words: |number| {
+                let template = shaped(FEW_SHAPED + number % MORE_SHAPED);
+                template_words(SHAPED_TYPE, &shaped(number / MORE_SHAPED), &template)
+            },
         },
         Family { size: 4 * 256, words: each_type },
     ],
