@@ -1,5 +1,6 @@
 -- The entries of bytes: each type is below 256, and places and lengths lie within the input.
 -- Assumes nothing.
+use mathlib.Core.Path.{_≡_}
 use mathlib.Core.List.{List, [], _∷_}
 use Prim.Native.Nat.{ℕ, zero, suc, _+_, _*_, _≤_, _<_}
 use native.Mathlib.Omega.{arith}
@@ -8,7 +9,7 @@ use lib.Seq.{length-take-le}
 use lib.Dec.{leb, eqb}
 use borrow.Author.Tests.{leb-true}
 use Rattle.laws.proofs.Tests.{pick-all}
-use Rattle.laws.proofs.Parts.{every-drop}
+use Rattle.laws.proofs.Parts.{every-take, every-drop}
 use Rattle.refusal.specs.Every.{Every, Bytes}
 use Rattle.tlv.specs.Entries.{First, none, cut, one, valued, long, first, Entry, entry, Stop, clean, cutAt, Framing, step, frames, framing}
 
@@ -20,33 +21,34 @@ abbrev pub Stops : ℕ → Stop → Type 0
 Stops end clean = Unit {0}
 Stops end (cutAt p) = p ≤ end
 
-abbrev FirstFits : List ℕ → First → Type 0
+abbrev pub FirstFits : List ℕ → First → Type 0
 FirstFits s none = Unit {0}
 FirstFits s cut = Unit {0}
-FirstFits s (one t h v rest) = (t < 256) × Bytes rest × (h + length v + length rest ≤ length s)
+FirstFits s (one t h v rest) =
+    (t < 256) × Bytes rest × (h + length v + length rest ≤ length s) × (2 ≤ h) × Bytes v × (length v < 65536)
 
-valued-fits : (s : List ℕ) (t h n : ℕ) (rest : List ℕ) → t < 256 → Bytes rest → h + length rest ≤ length s
+valued-fits : (s : List ℕ) (t h n : ℕ) (rest : List ℕ) → t < 256 → 2 ≤ h → n < 65536 → Bytes rest → h + length rest ≤ length s
     → FirstFits s (valued t h n rest)
 unfolding valued
-valued-fits s t h n rest k b e =
+valued-fits s t h n rest k two most b e =
     pick-all (FirstFits s) (leb n (length rest)) (one t h (take n rest) (drop n rest)) cut
-    (λ l. let fits = leb-true _ _ l in
-    (k, every-drop _ n rest b, omega (arith, length-take-le n rest fits, length-drop n rest))) (λ l. tt)
+    (λ l. let size : length (take n rest) ≡ n = length-take-le n rest (leb-true _ _ l) in
+    (k, every-drop _ n rest b, omega (arith, leb-true, length-drop n rest), two, every-take _ n rest b, omega arith)) (λ l. tt)
 
 long-fits : (s : List ℕ) (t : ℕ) (rest : List ℕ) → t < 256 → Bytes rest → 2 + length rest ≤ length s → FirstFits s (long t rest)
 unfolding long
 long-fits s t [] k b e = tt
 long-fits s t (a ∷ []) k b e = tt
-long-fits s t (a ∷ c ∷ rest) k b e = valued-fits s t 4 (a * 256 + c) rest k (b .1 .1) (omega arith)
+long-fits s t (a ∷ c ∷ rest) k b e = valued-fits s t 4 (a * 256 + c) rest k (omega arith) (omega arith) (b .1 .1) (omega arith)
 
-first-fits : (s : List ℕ) → Bytes s → FirstFits s (first s)
+pub first-fits : (s : List ℕ) → Bytes s → FirstFits s (first s)
 unfolding first
 first-fits [] b = tt
 first-fits (t ∷ []) b = tt
 first-fits (t ∷ l ∷ rest) b =
     let s = t ∷ l ∷ rest in
     pick-all (FirstFits s) (eqb l 255) (long t rest) (valued t 2 l rest)
-    (λ e. long-fits s t rest (b .0) (b .1 .1) (omega arith)) (λ e. valued-fits s t 2 l rest (b .0) (b .1 .1) (omega arith))
+    (λ e. long-fits s t rest (b .0) (b .1 .1) (omega arith)) (λ e. valued-fits s t 2 l rest (b .0) (omega arith) (omega arith) (b .1 .1) (omega arith))
 
 abbrev pub FramingFits : ℕ → Framing → Type 0
 FramingFits end w = Every (Fits end) (w .entries) × Stops end (w .stop)

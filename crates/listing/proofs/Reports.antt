@@ -1,4 +1,4 @@
--- The laws of what the program prints: the text without its final newline, the line that tells a refusal, and that reading `reportReads` bytes
+-- The laws of what a listing program prints: the text without its final newline, the line that tells a refusal, and that reading `reportReads` bytes
 -- is enough.
 -- Assumes nothing.
 use mathlib.Core.Path.{_≡_, refl, sym, ap, _∙_}
@@ -13,18 +13,26 @@ use Rattle.refusal.specs.Sizes.{mostDigits}
 use Rattle.refusal.specs.Answer.{Answer, refused, thenDo}
 use Rattle.laws.proofs.Tests.{by-test, pick-all}
 use Rattle.base16.proofs.Decodes.{decoded-large}
-use Rattle.listing.specs.Listing.{pairLine, listed, listedHex, lineOf, told, report, reportReads}
+use Rattle.listing.specs.Listing.{pairLine, lineOf, told, reportBy, reportReads}
 
 module _ (x : List ℕ) where
-  pub line-dropped : getD x (length x - 1) 0 ≡ 10 → take (length x - 1) x ≡ lineOf x
+  pub line-dropped : getD x (length x - 1) 0 ≡ 10 → length x - 1 ≡ length (lineOf x)
   unfolding lineOf
-  line-dropped h = simp (eq-eqb _ _ h)
+  line-dropped h = simp (eq-eqb _ _ h) (sym (length-take-le (length x - 1) x (omega arith)))
 
-  pub line-whole : (getD x (length x - 1) 0 ≡ 10 → ⊥) → take (length x) x ≡ lineOf x
+  pub line-whole : (getD x (length x - 1) 0 ≡ 10 → ⊥) → length x ≡ length (lineOf x)
   unfolding lineOf
-  line-whole h = simp (ne-eqb _ _ h) (take-length x)
+  line-whole h = simp (ne-eqb _ _ h)
 
-pub line-none : (x : List ℕ) → length x ≡ 0 → take 0 x ≡ lineOf x
+  -- the line is the start of the input
+  pub line-start : (length (lineOf x) ≤ length x) × (take (length (lineOf x)) x ≡ lineOf x)
+  unfolding lineOf
+  line-start =
+      pick-all (λ (l : List ℕ). (length l ≤ length x) × (take (length l) x ≡ l)) (eqb (getD x (length x - 1) 0) 10) (take (length x - 1) x) x
+      (λ e. let n = length-take-le (length x - 1) x (omega arith) in
+      (omega arith, ap (λ (k : ℕ). take k x) n)) (λ e. (omega arith, take-length x))
+
+pub line-none : (x : List ℕ) → length x ≡ 0 → 0 ≡ length (lineOf x)
 unfolding lineOf
 line-none [] h = refl
 line-none (b ∷ x) h = absurd (omega arith)
@@ -33,7 +41,7 @@ pub length-told : (n p i : ℕ) → length (told (refused n p i)) ≡ 8 + length
 unfolding told
 length-told n p i = omega arith
 
--- ---- what is printed for a text that is too long does not depend on the rest of it
+-- ---- what is printed for a text that is too long does not depend on the rest of it, nor on how its bytes would be listed
 
 line-length : (x : List ℕ) → length x ≤ length (lineOf x) + 1
 unfolding lineOf
@@ -41,13 +49,14 @@ line-length x =
     pick-all (λ (l : List ℕ). length x ≤ length l + 1) (eqb (getD x (length x - 1) 0) 10) (take (length x - 1) x) x
     (λ e. omega (arith, length-take-le (length x - 1) x (omega arith))) (λ e. omega arith)
 
-report-large : (x : List ℕ) → mostDigits + 1 < length x → report x ≡ told (refused 1 0 0)
-unfolding report listedHex
-report-large x h = ap (λ (a : Answer (List ℕ)). told (thenDo a listed)) (sym (decoded-large (lineOf x) (omega (arith, line-length x))))
+module _ (lists : List ℕ → Answer (List ℕ)) where
+  report-large : (x : List ℕ) → mostDigits + 1 < length x → reportBy lists x ≡ told (refused 1 0 0)
+  unfolding reportBy
+  report-large x h = ap (λ (a : Answer (List ℕ)). told (thenDo a lists)) (sym (decoded-large (lineOf x) (omega (arith, line-length x))))
 
-pub report-reads : (x : List ℕ) → report x ≡ report (take reportReads x)
-report-reads x =
-    by-test (ltb reportReads (length x))
-    (λ e. let long : length (take reportReads x) ≡ reportReads = length-take-le reportReads x (omega (arith, ltb-true)) in
-    report-large x (omega (arith, ltb-true)) ∙ sym (report-large (take reportReads x) (omega arith)))
-    (λ e. ap report (sym (take-all reportReads x (ltb-false _ _ e))))
+  pub report-reads : (x : List ℕ) → reportBy lists x ≡ reportBy lists (take reportReads x)
+  report-reads x =
+      by-test (ltb reportReads (length x))
+      (λ e. let long : length (take reportReads x) ≡ reportReads = length-take-le reportReads x (omega (arith, ltb-true)) in
+      report-large x (omega (arith, ltb-true)) ∙ sym (report-large (take reportReads x) (omega arith)))
+      (λ e. ap (reportBy lists) (sym (take-all reportReads x (ltb-false _ _ e))))

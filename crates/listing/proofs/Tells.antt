@@ -1,14 +1,13 @@
--- What `report_text` learns of `list_hex`: its answer is already the program's, or it is a refusal to be told, with the output as it was.
+-- What a program's text learns of its listing of hex text: the answer is already the program's, or it is a refusal to be told, with the output as it was.
 -- Assumes nothing.
 use mathlib.Core.Path.{_≡_, refl, ap, _∙_}
 use mathlib.Core.List.{List}
-use Prim.Native.Nat.{ℕ}
+use Prim.Native.Nat.{ℕ, _<_}
 use native.Mathlib.Omega.{arith}
 use Rattle.refusal.specs.Answer.{Answer, given, refused}
 use Rattle.refusal.specs.Output.{output, emit}
-use Rattle.listing.specs.Listing.{listedHex, told}
+use Rattle.listing.specs.Listing.{told}
 use Rattle.laws.proofs.Callers.{Refuses, itself, no-room, gave, refuses}
-use Rattle.listing.proofs.Bounds.{hex-refuses}
 
 -- a text is told as it is
 told-text : (a : Answer (List ℕ)) (out text : List ℕ) → a ≡ given text → emit a out ≡ emit (given (told a)) out
@@ -20,24 +19,25 @@ told-line : (n p i : ℕ) → told (refused n p i) ≡ told (refused n p 0)
 unfolding told
 told-line n p i = refl
 
-module _ (x out left : List ℕ) where
-  pub tells-given : (n : ℕ) → output (given n) left ≡ emit (listedHex x) out → output (given n) left ≡ emit (given (told (listedHex x))) out
+-- a listing, which is never refused under 11
+module _ (a : Answer (List ℕ)) (never : (n p i : ℕ) → a ≡ refused n p i → n < 11) (out left : List ℕ) where
+  pub tells-given : (n : ℕ) → output (given n) left ≡ emit a out → output (given n) left ≡ emit (given (told a)) out
   tells-given n e =
-      let g = gave out left (listedHex x) n e in
-      e ∙ told-text (listedHex x) out (g .bytes) (g .are)
+      let g = gave out left a n e in
+      e ∙ told-text a out (g .bytes) (g .are)
 
-  module _ (n p i : ℕ) (e : output (refused n p i) left ≡ emit (listedHex x) out) where
+  module _ (n p i : ℕ) (e : output (refused n p i) left ≡ emit a out) where
     -- 11 is about the listing
-    pub tells-no-room : n ≡ 11 → output (refused n p i) left ≡ emit (given (told (listedHex x))) out
-    tells-no-room eleven = by (refuses out left (listedHex x) n p i e)
+    pub tells-no-room : n ≡ 11 → output (refused n p i) left ≡ emit (given (told a)) out
+    tells-no-room eleven = by (refuses out left a n p i e)
       where
-        by : Refuses (listedHex x) out left n p i → output (refused n p i) left ≡ emit (given (told (listedHex x))) out
-        by (itself is _) = absurd (omega (arith, hex-refuses x n p i is))
-        by (no-room text is _ _) = e ∙ told-text (listedHex x) out text is
+        by : Refuses a out left n p i → output (refused n p i) left ≡ emit (given (told a)) out
+        by (itself is _) = absurd (omega (arith, never n p i is))
+        by (no-room text is _ _) = e ∙ told-text a out text is
 
-    pub tells-refusal : (n ≡ 11 → ⊥) → (left ≡ out) × (told (listedHex x) ≡ told (refused n p 0))
-    tells-refusal other = by (refuses out left (listedHex x) n p i e)
+    pub tells-refusal : (n ≡ 11 → ⊥) → (left ≡ out) × (told a ≡ told (refused n p 0))
+    tells-refusal other = by (refuses out left a n p i e)
       where
-        by : Refuses (listedHex x) out left n p i → (left ≡ out) × (told (listedHex x) ≡ told (refused n p 0))
+        by : Refuses a out left n p i → (left ≡ out) × (told a ≡ told (refused n p 0))
         by (itself is kept) = (kept, ap told is ∙ told-line n p i)
         by (no-room text is _ eleven) = absurd (other eleven)

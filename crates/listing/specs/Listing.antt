@@ -10,11 +10,11 @@ use Rattle.refusal.specs.Answer.{pick, Answer, given, absent, refused, thenDo, 
 use Rattle.tlv.specs.Entries.{Entry}
 use Rattle.tlv.specs.Limits.{framed}
 use Rattle.base16.specs.Base16.{decoded}
-use Rattle.listing.specs.Decimal.{decimal}
+use Rattle.text_writing.specs.Decimal.{decimal}
 
 -- two numbers, one space between, and a newline
 unfoldable pub pairLine : ℕ → ℕ → List ℕ
-pairLine a b = decimal a ++ (32 ∷ (decimal b ++ (10 ∷ [])))
+pairLine a b = decimal a ++ (32 ∷ []) ++ decimal b ++ (10 ∷ [])
 
 -- a line for each entry, with its type and its length
 unfoldable pub entryLines : List Entry → List ℕ
@@ -23,7 +23,7 @@ entryLines (e ∷ es) = pairLine (e .ty) (length (e .value)) ++ entryLines es
 
 -- "entries " and their count, then their lines
 unfoldable pub listing : List Entry → List ℕ
-listing es = 101 ∷ 110 ∷ 116 ∷ 114 ∷ 105 ∷ 101 ∷ 115 ∷ 32 ∷ (decimal (length es) ++ (10 ∷ entryLines es))
+listing es = (101 ∷ 110 ∷ 116 ∷ 114 ∷ 105 ∷ 101 ∷ 115 ∷ 32 ∷ []) ++ decimal (length es) ++ (10 ∷ []) ++ entryLines es
 
 -- the listing of a dataset's bytes: 1, 2, 3
 unfoldable pub listed : List ℕ → Answer (List ℕ)
@@ -41,17 +41,21 @@ lineOf x = pick (eqb (getD x (length x - 1) 0) 10) (take (length x - 1) x) x
 unfoldable pub told : Answer (List ℕ) → List ℕ
 told (given t) = t
 told absent = []
-told (refused n p i) = 114 ∷ 101 ∷ 102 ∷ 117 ∷ 115 ∷ 101 ∷ 100 ∷ 32 ∷ pairLine n p
+told (refused n p i) = (114 ∷ 101 ∷ 102 ∷ 117 ∷ 115 ∷ 101 ∷ 100 ∷ 32 ∷ []) ++ pairLine n p
 
--- what the listing program prints for its standard input
-unfoldable pub report : List ℕ → List ℕ
-report x = told (listedHex (lineOf x))
+-- what a listing program prints for its standard input, by how it lists the bytes of the hex text
+unfoldable pub reportBy : (List ℕ → Answer (List ℕ)) → List ℕ → List ℕ
+reportBy lists x = told (thenDo (decoded (lineOf x)) lists)
 
--- the program reads no more than this: one byte more than the digits and a newline, so that a text that is too long is told apart
+-- the program `list`
+abbrev pub report : List ℕ → List ℕ
+report x = reportBy listed x
+
+-- a program reads no more than this: one byte more than the digits and a newline, so that a text that is too long is told apart
 -- (`report-reads`, proofs/Reports.antt)
 abbrev pub reportReads : ℕ
 reportReads = mostDigits + 2
 
--- what it prints is never longer (`report-short`, proofs/Bounds.antt)
+-- what `list` prints is never longer (`report-short`, proofs/Bounds.antt)
 abbrev pub reportBytes : ℕ
 reportBytes = 16 * mostEntries

@@ -5,13 +5,11 @@ use tlv::Counted;
 use tlv::Frame;
 ghost use mathlib.Core.Path.{_≡_};
 ghost use mathlib.Core.List.{[], _∷_};
-ghost use Prim.Native.Nat.{_+_, _*_, _≤_};
-ghost use lib.ListN.{length, take};
+ghost use lib.ListN.{length};
 ghost use Rattle.refusal.specs.Answer.{given, refused};
-ghost use Rattle.refusal.specs.Sizes.{mostBytes};
-ghost use Rattle.refusal.specs.Output.{output, emit, put, writtenAnswer};
+ghost use Rattle.refusal.specs.Output.{output, emit, placing, writtenAnswer};
 ghost use Rattle.tlv.specs.Entries.{framing};
-ghost use Rattle.listing.specs.Decimal.{decimal};
+ghost use Rattle.text_writing.specs.Laid.{laid};
 ghost use Rattle.listing.specs.Listing.{pairLine, entryLines, listing, listed, listedHex, lineOf, told, report, reportReads, reportBytes};
 
 // The program `list` reads no more than this: with one byte more than the digits and their newline, a text that is too long is told apart.
@@ -26,73 +24,19 @@ fn constants() -> [usize; 2]
     [REPORT_READS, REPORT_BYTES]
 }
 
-// How many digits n has.
-fn decimal_len(n: usize) -> usize
-    ensures { λ r. ⌜ r ≡ length (decimal n) ⌝ }
+// The line of two numbers into out from at on, as far as there is room; the place after it.
+pub fn put_line(a: usize, b: usize, out: &mut [u8], at: usize) -> usize
+    ensures { λ r. ⌜ placing r (now (out .exit)) ≡ laid at (now (out .entry)) (pairLine a b) ⌝ }
 {
-    if n < 10 {
-        return 1;
-    }
-    decimal_len(n / 10) + 1
+    let space = text_writing::put_decimal(a, out, at);
+    let second = text_writing::put_byte(b' ', out, space);
+    let end = text_writing::put_decimal(b, out, second);
+    text_writing::put_byte(b'\n', out, end)
 }
 
-// The digits of n into out from at on; the place after them.
-fn put_decimal(n: usize, out: &mut [u8], at: usize) -> usize
-    requires { ⌜ at + length (decimal n) ≤ length (now out) ⌝ }
-    ensures { λ r. ⌜ (r ≡ at + length (decimal n)) × (now (out .exit) ≡ put (now (out .entry)) at (decimal n)) ⌝ }
-{
-    if n < 10 {
-        out[at] = b'0' + n as u8;
-        return at + 1;
-    }
-    let last = put_decimal(n / 10, out, at);
-    out[last] = b'0' + (n % 10) as u8;
-    last + 1
-}
-
-// How many bytes the line of two numbers has.
-fn line_len(a: usize, b: usize) -> usize
-    ensures { λ r. ⌜ r ≡ length (pairLine a b) ⌝ }
-{
-    decimal_len(a) + decimal_len(b) + 2
-}
-
-// The line of two numbers into out from at on; the place after it.
-fn put_line(a: usize, b: usize, out: &mut [u8], at: usize) -> usize
-    requires { ⌜ at + length (pairLine a b) ≤ length (now out) ⌝ }
-    ensures { λ r. ⌜ (r ≡ at + length (pairLine a b)) × (now (out .exit) ≡ put (now (out .entry)) at (pairLine a b)) ⌝ }
-{
-    let space = put_decimal(a, out, at);
-    out[space] = b' ';
-    let end = put_decimal(b, out, space + 1);
-    out[end] = b'\n';
-    end + 1
-}
-
-// How many bytes the lines of the entries of s have.
-fn lines_len(s: &[u8]) -> usize
-    requires { ⌜ length (now s) ≤ mostBytes ⌝ }
-    ensures { λ r. ⌜ (r ≡ length (entryLines (framing (now (s .entry)) .entries))) × (r ≤ 5 * mostBytes) ⌝ }
-{
-    let mut need: usize = 0;
-    let mut pos: usize = 0;
-    loop {
-        match tlv::frame_at(s, pos) {
-            Frame::Entry { ty, start, len } => {
-                need += line_len(ty as usize, len);
-                pos = start + len;
-            }
-            _ => {
-                return need;
-            }
-        }
-    }
-}
-
-// The lines of the entries of s into out from at on.
-fn put_lines(s: &[u8], out: &mut [u8], at: usize)
-    requires { ⌜ at + length (entryLines (framing (now s) .entries)) ≤ length (now out) ⌝ }
-    ensures { λ _. ⌜ now (out .exit) ≡ put (now (out .entry)) at (entryLines (framing (now (s .entry)) .entries)) ⌝ }
+// The lines of the entries of s into out from at on; the place after them.
+fn put_lines(s: &[u8], out: &mut [u8], at: usize) -> usize
+    ensures { λ r. ⌜ placing r (now (out .exit)) ≡ laid at (now (out .entry)) (entryLines (framing (now (s .entry)) .entries)) ⌝ }
 {
     let mut next = at;
     let mut pos: usize = 0;
@@ -103,21 +47,21 @@ fn put_lines(s: &[u8], out: &mut [u8], at: usize)
                 pos = start + len;
             }
             _ => {
-                return;
+                return next;
             }
         }
     }
 }
 
-// The listing of the n entries of s at the start of out.
-fn put_listing(s: &[u8], n: usize, out: &mut [u8])
-    requires { ⌜ (n ≡ length (framing (now s) .entries)) × (length (listing (framing (now s) .entries)) ≤ length (now out)) ⌝ }
-    ensures { λ _. ⌜ now (out .exit) ≡ put (now (out .entry)) 0 (listing (framing (now (s .entry)) .entries)) ⌝ }
+// The listing of the n entries of s into out; the place after it.
+fn put_listing(s: &[u8], n: usize, out: &mut [u8]) -> usize
+    requires { ⌜ n ≡ length (framing (now s) .entries) ⌝ }
+    ensures { λ r. ⌜ placing r (now (out .exit)) ≡ laid 0 (now (out .entry)) (listing (framing (now (s .entry)) .entries)) ⌝ }
 {
-    let word = copying::put_bytes(b"entries ", out, 0);
-    let end = put_decimal(n, out, word);
-    out[end] = b'\n';
-    put_lines(s, out, end + 1);
+    let word = text_writing::put_text(b"entries ", out, 0);
+    let end = text_writing::put_decimal(n, out, word);
+    let first = text_writing::put_byte(b'\n', out, end);
+    put_lines(s, out, first)
 }
 
 // The listing of a dataset or payload, at the start of out. Refusals: 1, 2, 3, 11.
@@ -127,7 +71,8 @@ pub fn list(s: &[u8], out: &mut [u8]) -> Written
     match tlv::count_entries(s, 0) {
         Counted::Refused(r) => Written::Refused(r),
         Counted::Entries(n) => {
-            let need = 9 + decimal_len(n) + lines_len(s);
+            let mut no_room = [0u8; 0];
+            let need = put_listing(s, n, &mut no_room);
             if need > out.len() {
                 return refusal::refuse(Fault::NoRoom, 0);
             }
@@ -149,8 +94,8 @@ pub fn list_hex(text: &[u8], out: &mut [u8]) -> Written
 }
 
 // How many bytes of input are left where one final newline is dropped.
-fn line_end(input: &[u8]) -> usize
-    ensures { λ r. ⌜ (r ≤ length (now (input .entry))) × (take r (now (input .entry)) ≡ lineOf (now (input .entry))) ⌝ }
+pub fn line_end(input: &[u8]) -> usize
+    ensures { λ r. ⌜ r ≡ length (lineOf (now (input .entry))) ⌝ }
 {
     let n = input.len();
     if n == 0 {
@@ -162,16 +107,24 @@ fn line_end(input: &[u8]) -> usize
     n
 }
 
+// The line that tells a refusal into out; the place after it.
+fn put_told(number: u8, place: usize, out: &mut [u8]) -> usize
+    ensures { λ r. ⌜ placing r (now (out .exit)) ≡ laid 0 (now (out .entry)) (told (refused number place 0)) ⌝ }
+{
+    let word = text_writing::put_text(b"refused ", out, 0);
+    put_line(number as usize, place, out, word)
+}
+
 // The line that tells a refusal, at the start of out. Refusal: 11.
-fn tell(number: u8, place: usize, out: &mut [u8]) -> Written
+pub fn tell(number: u8, place: usize, out: &mut [u8]) -> Written
     ensures { λ r. ⌜ output (writtenAnswer r) (now (out .exit)) ≡ emit (given (told (refused number place 0))) (now (out .entry)) ⌝ }
 {
-    let need = 8 + line_len(number as usize, place);
+    let mut no_room = [0u8; 0];
+    let need = put_told(number, place, &mut no_room);
     if need > out.len() {
         return refusal::refuse(Fault::NoRoom, 0);
     }
-    let word = copying::put_bytes(b"refused ", out, 0);
-    put_line(number as usize, place, out, word);
+    put_told(number, place, out);
     Written::Bytes(need)
 }
 

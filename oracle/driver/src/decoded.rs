@@ -59,7 +59,7 @@ fn decode_alone(ty: u8, value: &[u8]) -> meshcop::Result<NetDiagData> {
 }
 
 /// Document 01's number for the Rust's error of a value, whose text says "truncated" of what is cut and of nothing else.
-fn number_of(error: &Error) -> u32 {
+pub fn number_of(error: &Error) -> u32 {
     if text_of(error).contains("truncated") { 5 } else { 4 }
 }
 

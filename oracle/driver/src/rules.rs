@@ -63,10 +63,7 @@ fn network_data_fault(value: &[u8], most: &MostRows) -> Result<(), u32> {
 }
 
 fn prefix_fault(value: &[u8], rows: &mut Rows, most: &MostRows) -> Result<(), u32> {
-    let [_domain, bits, after @ ..] = value else {
-        return Err(5);
-    };
-    let mut rest = after.get(usize::from(*bits).div_ceil(8)..).ok_or(5u32)?;
+    let mut rest = inside_prefix(value).ok_or(5u32)?;
     while !rest.is_empty() {
         let (ty, inner, after) = first_tlv(rest).ok_or(5u32)?;
         match ty {
@@ -86,8 +83,16 @@ fn prefix_fault(value: &[u8], rows: &mut Rows, most: &MostRows) -> Result<(), u3
     Ok(())
 }
 
+/// What stands after the prefix's own bytes; `None` if these are cut.
+pub fn inside_prefix(value: &[u8]) -> Option<&[u8]> {
+    let [_domain, bits, after @ ..] = value else {
+        return None;
+    };
+    after.get(usize::from(*bits).div_ceil(8)..)
+}
+
 /// Type, value, and the bytes after a Network Data TLV, of which 255 is a length like any other; `None` if it is cut.
-fn first_tlv(bytes: &[u8]) -> Option<(u8, &[u8], &[u8])> {
+pub fn first_tlv(bytes: &[u8]) -> Option<(u8, &[u8], &[u8])> {
     let (header, after) = bytes.split_first_chunk::<2>()?;
     let (value, after) = after.split_at_checked(usize::from(header[1]))?;
     Some((header[0] / 2, value, after))

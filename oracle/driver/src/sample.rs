@@ -13,8 +13,8 @@ struct Band {
 }
 
 /// Lines that a size asks for, those about 255 bytes or 128 entries, and all others.
-const LONG: Band = Band { over: 2_000, most_characters: 1_740_000 };
-const MIDDLING: Band = Band { over: 300, most_characters: 200_000 };
+const LONG: Band = Band { over: 2_000, most_characters: 1_757_000 };
+const MIDDLING: Band = Band { over: 300, most_characters: 185_000 };
 const SHORT: Band = Band { over: 0, most_characters: 250_000 };
 
 const MOST_LONG_LINES: usize = 100;
@@ -86,16 +86,28 @@ fn label(call: &str, request: &str, answer: &Answer) -> String {
 }
 
 /// The last field of a record, by its type; the last answer of a pairing; of Network Data which kinds of rows it has; who
-/// supplied a value, and whether it is empty.
+/// supplied a value, and whether it is empty; of a nested listing which kinds of lines it has.
 fn form_of(call: &str, words: &str) -> String {
     let last = words.rsplit(' ').next().unwrap_or_default();
     match call {
         "diag" => format!(" {}", last_type(words)),
         "pair" => format!(" {}", last.trim_end_matches(|c: char| c.is_ascii_digit())),
         "template" => format!(" {}{}", &words[..1], if words[2..].starts_with('-') { " -" } else { " +" }),
+        "nested" => lines_below_the_first_level(words),
         "nd" => last.split('|').map(|rows| if rows.ends_with('-') { " -" } else { " +" }).collect(),
         _ => String::new(),
     }
+}
+
+/// Items and cuts of the second level, items and cuts of the third.
+fn lines_below_the_first_level(words: &str) -> String {
+    let text = String::from_utf8(hex::decode(words).unwrap_or_default()).unwrap_or_default();
+    let is = |line: &str, blanks: usize, cut: bool| {
+        let item = line.trim_start();
+        line.len() - item.len() == blanks && (item == "cut") == cut
+    };
+    let kinds = [(2, false), (2, true), (4, false), (4, true)];
+    kinds.map(|(blanks, cut)| if text.lines().any(|line| is(line, blanks, cut)) { " +" } else { " -" }).concat()
 }
 
 /// Of the fields of a record.

@@ -6,7 +6,7 @@ use Rattle.listing.proofs.line_end.Statement.{statement}
 use Rattle.listing.proofs.line_end.Tie as tie
 
 returns : tie.Need-returns
-returns c = (search needs, line-none _ (c .if1 .taken))
+returns c = line-none _ (c .if1 .taken)
 
 sub-if2 : tie.Need-sub-if2
 sub-if2 c = search needs
@@ -18,10 +18,10 @@ sub-result : tie.Need-sub-result
 sub-result c = search needs
 
 returns-2 : tie.Need-returns-2
-returns-2 c = (search needs, line-dropped _ (c .if2 .taken))
+returns-2 c = line-dropped _ (c .if2 .taken)
 
 returns-3 : tie.Need-returns-3
-returns-3 c = (search needs, line-whole _ (c .if2 .left))
+returns-3 c = line-whole _ (c .if2 .left)
 
 pub line-end-spec : {M : Type 1} → statement M
 line-end-spec =

@@ -1,46 +1,32 @@
--- `listing::list` meets its contract: the count's refusal, 11 by the text's length, or the text.
+-- `listing::list` meets its contract: the count's refusal, 11 by the size that the text takes in no room, or the text.
 -- Assumes nothing.
 use mathlib.Core.Path.{_≡_, sym, ap, _∙_}
 use mathlib.Core.List.{List}
-use Prim.Native.Nat.{ℕ, _+_}
+use Prim.Native.Nat.{ℕ}
 use native.Mathlib.Omega.{arith}
-use lib.ListN.{length}
 use borrow.Author.Needs.{needs}
 use Rattle.refusal.specs.Answer.{given}
-use Rattle.laws.proofs.Emits.{emit-refused, emit-no-room, emit-done}
+use Rattle.laws.proofs.Emits.{emit-refused}
 use Rattle.tlv.specs.Entries.{framing}
 use Rattle.tlv.specs.Limits.{count}
 use Rattle.tlv.specs.Answers.{countedAnswer}
-use Rattle.tlv.proofs.Tally.{counted-number, counted-short}
+use Rattle.tlv.proofs.Tally.{counted-number}
+use Rattle.text_writing.proofs.Lays.{lays-no-room, lays-done}
 use Rattle.listing.specs.Listing.{listing, listed}
-use Rattle.listing.proofs.Decimals.{length-below}
-use Rattle.listing.proofs.Lines.{length-listing}
 use Rattle.listing.proofs.Counts.{listed-given, listed-refused}
 use Rattle.listing.proofs.list.Statement.{statement}
 use Rattle.listing.proofs.list.Tie as tie
 
--- what is known once the entries are counted, and once their lines are measured
+-- what is known once the entries are counted
 module _ (t : tie.After-n) where
-  abbrev bytes : List ℕ
-  bytes = t .before .before .before .before .before .args .s .now
+  abbrev start : tie.Start
+  start = t .before .before .before .before .before
 
-  counted : given (t .n .given .0 .0) ≡ count 0 bytes
+  counted : given (t .n .given .0 .0) ≡ count 0 (start .args .s .now)
   counted = sym (ap countedAnswer (t .n .given .1)) ∙ t .before .before .count-entries .ensures
 
-module _ (l : tie.After-lines-len) where
-  abbrev entries-counted : tie.After-n
-  entries-counted = l .before .before .before
-
-  abbrev text : List ℕ
-  text = listing (framing (bytes entries-counted) .entries)
-
-  is-text : listed (bytes entries-counted) ≡ given text
-  is-text = listed-given _ _ (counted entries-counted)
-
-  size : 9 + l .before .decimal-len .result + l .lines-len .result ≡ length text
-  size =
-      let n = counted-number 0 _ _ (counted entries-counted) in
-      omega (arith, length-listing (framing (bytes entries-counted) .entries) _ n, l .before .decimal-len .ensures, l .lines-len .ensures)
+  is-text : listed (start .args .s .now) ≡ given (listing (framing (start .args .s .now) .entries))
+  is-text = listed-given _ _ counted
 
 count-entries-requires : tie.Need-count-entries-requires
 count-entries-requires c κs = search needs
@@ -51,32 +37,22 @@ enum-known-r c = search needs
 enum-known-n : tie.Need-enum-known-n
 enum-known-n c = search needs
 
-decimal-len-requires : tie.Need-decimal-len-requires
-decimal-len-requires c κs = search needs
+slice-aggregate-put-listing : tie.Need-slice-aggregate-put-listing
+slice-aggregate-put-listing c = search needs
 
-add-need : tie.Need-add-need
-add-need c =
-    let t = c .before .before in
-    omega (arith, c .decimal-len .ensures, length-below 19 (t .n .given .0 .0) (omega arith))
-
-lines-len-requires : tie.Need-lines-len-requires
-lines-len-requires c κs = counted-short _ _ _ (counted (c .before .before))
-
-add-need-2 : tie.Need-add-need-2
-add-need-2 c =
-    let t = c .before .before .before in
-    omega (arith, c .before .decimal-len .ensures, length-below 19 (t .n .given .0 .0) (omega arith), c .lines-len .ensures)
+put-listing-requires : tie.Need-put-listing-requires
+put-listing-requires c κs = counted-number 0 _ _ (counted (c .before .before))
 
 refuse-requires : tie.Need-refuse-requires
 refuse-requires c κs = search needs
 
 returns : tie.Need-returns
-returns c = rw (c .refuse .ensures) (emit-no-room _ _ _ (is-text (c .before .before)) (omega (arith, size (c .before .before))))
+returns c =
+    let p = c .before .before .before in
+    rw (c .refuse .ensures) (lays-no-room _ _ _ (is-text (p .before .before .before)) _ _ _ (p .put-listing .ensures) (c .before .if1 .taken))
 
-put-listing-requires : tie.Need-put-listing-requires
-put-listing-requires c κs =
-    let l = c .before .before in
-    (counted-number 0 _ _ (counted (entries-counted l)), omega (arith, size l))
+put-listing-requires-2 : tie.Need-put-listing-requires-2
+put-listing-requires-2 c κs = counted-number 0 _ _ (counted (c .before .before .before .before .before .before))
 
 returns-2 : tie.Need-returns-2
 returns-2 c =
@@ -85,13 +61,15 @@ returns-2 c =
     emit-refused _ _ _ _ _ (listed-refused _ _ _ _ counted)
 
 same-length : tie.Need-same-length
-same-length c = c .before .before .put-listing .kept .1 .1 .0
+same-length c = search needs
 
 returns-3 : tie.Need-returns-3
 returns-3 c =
-    let p = c .before .before in
-    let l = p .before .before .before in
-    emit-done _ _ _ (is-text l) _ _ (size l) (p .put-listing .ensures) (omega (arith, size l))
+    let w = c .before .before in
+    let i = w .before .before in
+    let p = i .before .before in
+    let t = p .before .before .before in
+    lays-done _ _ _ (is-text t) _ _ _ (p .put-listing .ensures) (omega (arith, start t .good .1 .0)) (i .if1 .left) _ _ (w .put-listing2 .ensures)
 
 pub list-spec : {M : Type 1} → statement M
 list-spec =
@@ -100,13 +78,11 @@ list-spec =
     count-entries-requires
     enum-known-r
     enum-known-n
-    decimal-len-requires
-    add-need
-    lines-len-requires
-    add-need-2
+    slice-aggregate-put-listing
+    put-listing-requires
     refuse-requires
     returns
-    put-listing-requires
+    put-listing-requires-2
     returns-2
     same-length
     returns-3)

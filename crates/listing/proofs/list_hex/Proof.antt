@@ -4,6 +4,7 @@ use native.Mathlib.Omega.{arith}
 use borrow.Author.Needs.{needs}
 use Rattle.laws.proofs.Emits.{emit-refused}
 use Rattle.laws.proofs.Callers.{gave-inside}
+use Rattle.listing.specs.Listing.{listed, listedHex}
 use Rattle.listing.proofs.Hexes.{hex-given, hex-refused}
 use Rattle.listing.proofs.list_hex.Statement.{statement}
 use Rattle.listing.proofs.list_hex.Tie as tie
@@ -36,20 +37,22 @@ list-requires : tie.Need-list-requires
 list-requires c κs = search needs
 
 returns : tie.Need-returns
+unfolding listedHex
 returns c =
     let t = c .before in
     let d = t .before .before .before in
-    emit-refused _ _ _ _ _ (hex-refused _ _ _ _ _ _ (search needs) (rw (t .r .given .1) at (d .decode .ensures)))
+    emit-refused _ _ _ _ _ (hex-refused listed _ _ _ _ _ _ (search needs) (rw (t .r .given .1) at (d .decode .ensures)))
 
 same-length : tie.Need-same-length
 same-length c = c .before .before .list .kept .1 .0
 
 returns-2 : tie.Need-returns-2
+unfolding listedHex
 returns-2 c =
     let l = c .before .before in
     let t = l .before .before .before .before .before in
     let d = t .before .before .before in
-    let bytes = hex-given _ _ _ _ (rw (t .n .given .1) at (d .decode .ensures)) in
+    let bytes = hex-given listed _ _ _ _ (rw (t .n .given .1) at (d .decode .ensures)) in
     rw bytes (l .list .ensures)
 
 pub list-hex-spec : {M : Type 1} → statement M

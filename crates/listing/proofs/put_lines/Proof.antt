@@ -1,32 +1,29 @@
--- `listing::put_lines` meets its contract. The invariant: the lines from pos on, stored from next on, make of out what all the lines make of it.
+-- `listing::put_lines` meets its contract. The invariant: the lines from pos on, laid from next on, make of out what all the lines make of it.
 -- Assumes nothing.
 use mathlib.Core.Path.{_≡_, refl, sym, ap, _∙_}
-use Prim.Native.Nat.{_+_, _-_, _≤_}
+use Prim.Native.Nat.{_-_, _≤_}
 use native.Mathlib.Omega.{arith}
 use lib.ListN.{length}
-use borrow.Author.Needs.{needs}
-use Rattle.refusal.specs.Output.{put}
-use Rattle.laws.proofs.Puts.{put-none, put-then}
 use Rattle.tlv.specs.Entries.{framing}
 use Rattle.tlv.proofs.Walks.{from, turn-inside, turn-none}
+use Rattle.text_writing.specs.Laid.{laid}
+use Rattle.text_writing.proofs.Lays.{laid-none, laid-rest, laid-length}
 use Rattle.listing.specs.Listing.{entryLines}
-use Rattle.listing.proofs.Lines.{lines-start, lines-turn, length-turn, lines-end}
+use Rattle.listing.proofs.Lines.{lines-start, lines-turn, lines-end}
+use borrow.Author.Needs.{needs}
 use Rattle.listing.proofs.put_lines.Statement.{statement}
 use Rattle.listing.proofs.put_lines.Tie as tie
 
 abbrev Inv-loop : tie.InvT-loop
 Inv-loop s out₀ at next₀ pos₀ out next pos =
     (pos ≤ length s) × (length out ≡ length out₀)
-    × (next + length (entryLines (from s pos .entries)) ≡ at + length (entryLines (framing s .entries)))
-    × (put out next (entryLines (from s pos .entries)) ≡ put out₀ at (entryLines (framing s .entries)))
+    × (laid next out (entryLines (from s pos .entries)) ≡ laid at out₀ (entryLines (framing s .entries)))
 
 abbrev μ-loop : tie.MeasureT-loop
 μ-loop s out₀ at next₀ pos₀ out next pos = length s - pos
 
 loop-holds : tie.Need-loop-holds Inv-loop μ-loop
-loop-holds c =
-    let s = c .before .before .args .s .now in
-    (search needs, refl, omega (arith, ap length (lines-start s)), ap (put _ _) (lines-start s))
+loop-holds c = (search needs, refl, ap (laid _ _) (lines-start _))
 
 frame-at-requires : tie.Need-frame-at-requires Inv-loop μ-loop
 frame-at-requires c κs = search needs
@@ -38,9 +35,7 @@ cast-put-line : tie.Need-cast-put-line Inv-loop μ-loop
 cast-put-line c = search needs
 
 put-line-requires : tie.Need-put-line-requires Inv-loop μ-loop
-put-line-requires c κs =
-    let t = c .before .before in
-    omega (arith, length-turn _ _ _ (t .before .before .frame-at .ensures) _ _ _ (t .ty .given .1))
+put-line-requires c κs = search needs
 
 add-pos : tie.Need-add-pos Inv-loop μ-loop
 add-pos c =
@@ -60,9 +55,8 @@ loop-again c =
     let found = h .frame-at .ensures in
     let wrote = k .put-line .ensures in (
       turn-inside _ _ _ found _ _ _ (t .ty .given .1) .1,
-      k .put-line .kept .1 .1 .0 ∙ h .before .loop .inv .1,
-      omega (arith, length-turn _ _ _ found _ _ _ (t .ty .given .1), wrote .0),
-      put-then _ _ _ _ _ _ (wrote .1) (wrote .0) ∙ ap (put _ _) (sym (lines-turn _ _ _ found _ _ _ (t .ty .given .1))) ∙ h .before .loop .inv .3,
+      laid-length _ _ _ _ _ wrote ∙ h .before .loop .inv .1,
+      laid-rest _ _ _ _ _ wrote _ ∙ ap (laid _ _) (lines-turn _ _ _ found _ _ _ (t .ty .given .1)) ∙ h .before .loop .inv .2,
     )
 
 same-length : tie.Need-same-length Inv-loop μ-loop
@@ -71,7 +65,7 @@ same-length c = c .before .before .loop .inv .1
 returns : tie.Need-returns Inv-loop μ-loop
 returns c =
     let none = turn-none _ _ _ (c .before .frame-at .ensures) (c .match .keys2) in
-    sym (put-none _ _) ∙ ap (put _ _) (sym (lines-end _ _ none)) ∙ c .before .before .loop .inv .3
+    laid-none _ _ ∙ ap (laid _ _) (lines-end _ _ none) ∙ c .before .before .loop .inv .2
 
 pub put-lines-spec : {M : Type 1} → statement M
 put-lines-spec =

@@ -1,74 +1,47 @@
--- `listing::tell` meets its contract: the word, the line. No line of two numbers is longer than 42.
+-- `listing::tell` meets its contract: 11 by the size that the line takes in no room, or the line.
 -- Assumes nothing.
-use mathlib.Core.Path.{refl, _∙_}
+use mathlib.Core.Path.{refl}
 use native.Mathlib.Omega.{arith}
+use Rattle.text_writing.proofs.Lays.{lays-no-room, lays-done}
 use borrow.Author.Needs.{needs}
-use Rattle.laws.proofs.Puts.{put-then}
-use Rattle.laws.proofs.Emits.{emit-no-room, emit-done, placed-next, placed-left}
-use Rattle.listing.specs.Listing.{told}
-use Rattle.listing.proofs.Lines.{line-below}
-use Rattle.listing.proofs.Reports.{length-told}
 use Rattle.listing.proofs.tell.Statement.{statement}
 use Rattle.listing.proofs.tell.Tie as tie
 
-line-len-requires : tie.Need-line-len-requires
-line-len-requires c κs = search needs
+slice-aggregate-put-told : tie.Need-slice-aggregate-put-told
+slice-aggregate-put-told c = search needs
 
-add-need : tie.Need-add-need
-add-need c =
-    let a = c .before .before .args in
-    omega (arith, c .line-len .ensures, line-below 19 19 (a .number) (a .place) (omega arith) (omega arith))
+put-told-requires : tie.Need-put-told-requires
+put-told-requires c κs = search needs
 
 refuse-requires : tie.Need-refuse-requires
 refuse-requires c κs = search needs
 
 returns : tie.Need-returns
 returns c =
-    let l = c .before .before in
-    let a = l .before .before .args in
-    rw (c .refuse .ensures) (emit-no-room _ _ _ refl (omega (arith, l .line-len .ensures, length-told (a .number) (a .place) 0)))
+    let n = c .before .before .before in
+    rw (c .refuse .ensures) (lays-no-room _ _ _ refl _ _ _ (n .put-told .ensures) (c .before .if1 .taken))
 
-slice-aggregate-put-bytes : tie.Need-slice-aggregate-put-bytes
-slice-aggregate-put-bytes c = search needs
-
-put-bytes-requires : tie.Need-put-bytes-requires
-put-bytes-requires c κs = search needs
-
-put-line-requires : tie.Need-put-line-requires
-put-line-requires c κs =
-    let w = c .before .before .before in
-    let l = w .before .before .before .before in
-    omega (arith, l .line-len .ensures, placed-next _ _ _ _ _ (w .put-bytes .ensures) (omega arith), w .put-bytes .kept)
+put-told-requires-2 : tie.Need-put-told-requires-2
+put-told-requires-2 c κs = search needs
 
 same-length : tie.Need-same-length
-same-length c =
-    let p = c .before .before in
-    let w = p .before .before .before .before in
-    p .put-line .kept .1 .1 .0 ∙ w .put-bytes .kept .1 .0
+same-length c = search needs
 
 returns-2 : tie.Need-returns-2
-unfolding told
 returns-2 c =
-    let p = c .before .before in
-    let w = p .before .before .before .before in
-    let l = w .before .before .before .before in
-    let a = l .before .before .args in
-    let next = placed-next _ _ _ _ _ (w .put-bytes .ensures) (omega arith) in
-    let left = placed-left _ _ _ _ _ (w .put-bytes .ensures) (omega arith) in
-    let need = length-told (a .number) (a .place) 0 in
-    let wrote = p .put-line .ensures .1 ∙ put-then _ _ _ _ _ _ left next in
-    emit-done _ _ _ refl _ _ (omega (arith, l .line-len .ensures)) wrote (omega (arith, l .line-len .ensures))
+    let w = c .before .before in
+    let i = w .before .before in
+    let n = i .before .before in
+    lays-done _ _ _ refl _ _ _ (n .put-told .ensures) (omega (arith, n .before .before .before .good .1 .1 .0)) (i .if1 .left) _ _ (w .put-told2 .ensures)
 
 pub tell-spec : {M : Type 1} → statement M
 tell-spec =
     tie.close
     (tie.spec
-    line-len-requires
-    add-need
+    slice-aggregate-put-told
+    put-told-requires
     refuse-requires
     returns
-    slice-aggregate-put-bytes
-    put-bytes-requires
-    put-line-requires
+    put-told-requires-2
     same-length
     returns-2)

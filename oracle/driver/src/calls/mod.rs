@@ -12,6 +12,7 @@ mod diagnostics;
 mod edits;
 mod framing;
 mod listing;
+mod nested;
 mod pairing;
 mod parts;
 mod queries;
@@ -113,13 +114,14 @@ pub const ALL: &[Call] = &[
     Call { name: "flat", answer: |w| Some(listing::flat(&w.bytes()?, w.number()?)) },
     Call { name: "hexflat", answer: |w| Some(listing::hexflat(&w.bytes()?, w.number()?)) },
     Call { name: "prog", answer: |w| Some(listing::prog(&w.bytes()?)) },
+    Call { name: "nested", answer: |w| Some(nested::nested(&w.bytes()?, w.number()?)) },
 ];
 
 /// Calls that the Rust does not have: what they answer is document 01's or 02's, over what the Rust, or its standard
 /// library, reads.
 pub const NOT_IN_THE_RUST: &[&str] = &[
     "ops", "fold", "fold2", "pair", "write", "addrtext", "textaddr", "wdelay", "due", "wdelay30", "due30", "template",
-    "flat", "hexflat", "prog",
+    "flat", "hexflat", "prog", "nested",
 ];
 
 fn tables(words: &mut Words) -> Option<Tables> {

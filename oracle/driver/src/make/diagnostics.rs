@@ -7,7 +7,7 @@ use super::diag_values::{CHILD_ADDRESSES, CHILD_TABLE, common_length, value, val
 use super::framing::words_of;
 use super::network::{bare_prefix, item, long_network_data, network_data_edges};
 use super::payloads::{payload, payload_edges};
-use super::short::{Family, ZERO_OR_ONE_BYTE, lone_bit, lone_bits, string, strings, zero_or_one_byte};
+use super::short::{Family, ZERO_OR_ONE_BYTE, in_order, lone_bit, lone_bits, string, strings, zero_or_one_byte};
 use crate::random::Random;
 use crate::rules::NETWORK_DATA;
 use crate::sizes::MOST_BYTES;
@@ -168,7 +168,7 @@ pub const DIAG: Maker = Maker {
                 format!("{} 0 0 0", bytes_word(&[&[ty as u8, length as u8], &vec![0; length][..]].concat()))
             },
         },
-        Family { size: ORDERED, words: |number| format!("{} 1 0 0", bytes_word(&ordered(number))) },
+        Family { size: ORDERED, words: |number| format!("{} 1 0 0", bytes_word(&in_order(SHAPES, number))) },
     ],
 };
 
@@ -189,11 +189,6 @@ const SHAPES: &[&[u8]] = &[
     &[19, 1, 7],
 ];
 const ORDERED: usize = strings(SHAPES.len(), 0, 3);
-
-fn ordered(number: usize) -> Vec<u8> {
-    let shapes = string(&[0, 1, 2, 3, 4, 5, 6, 7, 8], 0, number);
-    shapes.iter().flat_map(|shape| SHAPES[usize::from(*shape)]).copied().collect()
-}
 
 fn diag_edges(random: &mut Random) -> Vec<String> {
     let mut edges = with_edge_tables_in_turn("diag", &words_of(&payload_edges(random)));

@@ -26,6 +26,8 @@ mod listing;
 mod lists;
 mod masks;
 mod names;
+mod nested;
+mod nested_edges;
 mod network;
 mod pairing;
 mod parts;
@@ -135,6 +137,7 @@ const MAKERS: &[Maker] = &[
     listing::FLAT,
     listing::HEXFLAT,
     listing::PROG,
+    nested::NESTED,
 ];
 
 /// Where a request comes from.

@@ -31,6 +31,13 @@ pub fn string(letters: &[u8], least: u32, number: usize) -> Vec<u8> {
     (0..length).rev().map(letter).collect()
 }
 
+/// String number `number` of shapes instead of letters, the shortest ones, of no shape, first.
+pub fn in_order(shapes: &[&[u8]], number: usize) -> Vec<u8> {
+    let letters: Vec<u8> = (0..shapes.len() as u8).collect();
+    let order = string(&letters, 0, number);
+    order.iter().flat_map(|letter| shapes[usize::from(*letter)]).copied().collect()
+}
+
 /// All strings of 0 and 1 bytes.
 pub const ZERO_OR_ONE_BYTE: usize = 257;
 

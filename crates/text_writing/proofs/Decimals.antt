@@ -9,8 +9,8 @@ use lib.ListN.{length, length-append}
 use lib.Dec.{ltb}
 use borrow.Author.Tests.{lt-ltb, le-ltb, ltb-true, ltb-false}
 use Rattle.refusal.specs.Answer.{pick}
-use Rattle.laws.proofs.Tests.{by-test}
-use Rattle.listing.specs.Decimal.{decimalIn, decimal}
+use Rattle.laws.proofs.Tests.{by-test, pick-all}
+use Rattle.text_writing.specs.Decimal.{decimalIn, decimal}
 
 -- the fuel makes no difference, where it is more than n
 any-fuel : (k m n : ℕ) → n < k → n < m → decimalIn k n ≡ decimalIn m n
@@ -50,6 +50,18 @@ length-below (suc k) n h =
     by-test (ltb n 10)
     (λ e. omega (arith, length-one n (ltb-true _ _ e)))
     (λ e. omega (arith, length-more n (ltb-false _ _ e), length-below k (n / 10) (div-lt-iff-lt-mul (omega arith) .1 (rw pow-suc at h))))
+
+-- and never more than one digit more than the number itself
+in-fuel : (k n : ℕ) → length (decimalIn k n) ≤ k
+unfolding decimalIn
+in-fuel zero n = omega arith
+in-fuel (suc k) n =
+    pick-all (λ (ds : List ℕ). length ds ≤ suc k) (ltb n 10) ((48 + n) ∷ []) (decimalIn k (n / 10) ++ ((48 + n % 10) ∷ []))
+    (λ e. omega arith) (λ e. omega (arith, length-append (decimalIn k (n / 10)) ((48 + n % 10) ∷ []), in-fuel k (n / 10)))
+
+pub length-few : (n : ℕ) → length (decimal n) ≤ suc n
+unfolding decimal
+length-few n = in-fuel (suc n) n
 
 -- ---- decimal digits can be read back, so that different numbers have different text
 

@@ -1,0 +1,73 @@
+-- `nested_listing::list_nested_hex` meets its contract: the text's refusal, or the answer for its bytes.
+-- Assumes nothing.
+use native.Mathlib.Omega.{arith}
+use borrow.Author.Needs.{needs}
+use Rattle.laws.proofs.Emits.{emit-refused}
+use Rattle.laws.proofs.Callers.{gave-inside}
+use Rattle.nested_listing.specs.Nested.{nested}
+use Rattle.nested_listing.specs.Report.{nestedHex}
+use Rattle.listing.proofs.Hexes.{hex-given, hex-refused}
+use Rattle.nested_listing.proofs.list_nested_hex.Statement.{statement}
+use Rattle.nested_listing.proofs.list_nested_hex.Tie as tie
+
+slice-aggregate-decode : tie.Need-slice-aggregate-decode
+slice-aggregate-decode c = search needs
+
+decode-requires : tie.Need-decode-requires
+decode-requires c κs = search needs
+
+enum-known-r : tie.Need-enum-known-r
+enum-known-r c = search needs
+
+enum-known-n : tie.Need-enum-known-n
+enum-known-n c = search needs
+
+sub-list-nested : tie.Need-sub-list-nested
+sub-list-nested c = search needs
+
+part-list-nested-start : tie.Need-part-list-nested-start
+part-list-nested-start c = search needs
+
+part-list-nested-end : tie.Need-part-list-nested-end
+part-list-nested-end c =
+    let t = c .before .before in
+    let d = t .before .before .before in
+    omega (arith, gave-inside _ _ _ _ (rw (t .n .given .1) at (d .decode .ensures)))
+
+list-nested-requires : tie.Need-list-nested-requires
+list-nested-requires c κs = search needs
+
+returns : tie.Need-returns
+unfolding nestedHex
+returns c =
+    let t = c .before in
+    let d = t .before .before .before in
+    emit-refused _ _ _ _ _ (hex-refused nested _ _ _ _ _ _ (search needs) (rw (t .r .given .1) at (d .decode .ensures)))
+
+same-length : tie.Need-same-length
+same-length c = c .before .before .list-nested .kept .1 .0
+
+returns-2 : tie.Need-returns-2
+unfolding nestedHex
+returns-2 c =
+    let l = c .before .before in
+    let t = l .before .before .before .before .before in
+    let d = t .before .before .before in
+    let bytes = hex-given nested _ _ _ _ (rw (t .n .given .1) at (d .decode .ensures)) in
+    rw bytes (l .list-nested .ensures)
+
+pub list-nested-hex-spec : {M : Type 1} → statement M
+list-nested-hex-spec =
+    tie.close
+    (tie.spec
+    slice-aggregate-decode
+    decode-requires
+    enum-known-r
+    enum-known-n
+    sub-list-nested
+    part-list-nested-start
+    part-list-nested-end
+    list-nested-requires
+    returns
+    same-length
+    returns-2)

@@ -1,0 +1,4 @@
+pub mod Tree
+pub mod Nested
+pub mod Report
+pub mod Levels
