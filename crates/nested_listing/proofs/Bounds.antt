@@ -150,9 +150,17 @@ entries-step s at entries.none next w go = omega arith
 entries-step s at entries.cut next w go = omega arith
 entries-step s at (entries.one t h v rest) next w go =
     let after = payload (next (at + h + length v) rest .entries) in
-    omega
-    (arith, w .2, w .3, length-more 0 t (length v) (firstHolds t v) after, length-item 0 t (length v), length-below 2 t (omega arith), length-below 4 (length v) (omega arith),
-    first-light t v (w .4), go (at + h + length v) rest (w .1))
+    omega (
+      arith,
+      w .2,
+      w .3,
+      length-more 0 t (length v) (firstHolds t v) after,
+      length-item 0 t (length v),
+      length-below 2 t (omega arith),
+      length-below 4 (length v) (omega arith),
+      first-light t v (w .4),
+      go (at + h + length v) rest (w .1),
+    )
 
 entries-light : (fuel at : ℕ) (s : List ℕ) → Bytes s → LightEntries s (entries.frames fuel at s)
 unfolding entries.frames payload lines

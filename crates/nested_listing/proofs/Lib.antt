@@ -1,3 +1,4 @@
 pub mod Texts
 pub mod Turns
+pub mod Order
 pub mod Bounds

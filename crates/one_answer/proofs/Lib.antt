@@ -6,6 +6,7 @@ pub mod TlvWriting
 pub mod TlvRewriting
 pub mod HexText
 pub mod Base16
+pub mod TextWriting
 pub mod AddressWriting
 pub mod AddressReading
 pub mod Utf8
@@ -38,5 +39,6 @@ pub mod DiagBridge
 pub mod PairRule
 pub mod Pairing
 pub mod Listing
+pub mod NestedListing
 pub mod WritingPlans
 pub mod DiagWriting

@@ -4,3 +4,4 @@ pub mod Diag
 pub mod NetworkData
 pub mod Pairing
 pub mod Addresses
+pub mod NestedListing

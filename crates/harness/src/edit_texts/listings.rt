@@ -1,4 +1,4 @@
-// Calls that write listings: `flat`, `hexflat`, `prog`.
+// Calls that write listings: `flat`, `hexflat`, `nested`, `prog`.
 use crate::edit_texts::addresses::address_calls;
 use crate::edit_texts::answers::Answer;
 use crate::edit_texts::lent::lend;
@@ -19,6 +19,9 @@ pub(crate) fn listing_calls(request: &Room, v: Values, lent: &mut [u8]) -> Answe
     }
     if asks(request, b"hexflat bn") {
         return Answer::Wrote(listing::list_hex(v.bytes(request, 1), lent));
+    }
+    if asks(request, b"nested bn") {
+        return Answer::Wrote(nested_listing::list_nested(v.bytes(request, 1), lent));
     }
     address_calls(request, v, lent)
 }
