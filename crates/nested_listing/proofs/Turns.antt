@@ -48,10 +48,10 @@ module _ (left : ℕ) (s : List ℕ) (at : ℕ) where
   unfolding itemAt
   item-below h r told = rw (ne-eqb _ _ h, subs.found s at (length s) r told)
 
-pub no-entry : (r : Frame) → OneOf (1 ∷ 2 ∷ []) (tagOf Frame.the-type r) → f.End ≡ asEntry r
-no-entry f.End k = refl
-no-entry f.Cut k = refl
-no-entry (f.Entry t a n) k = ⊎-elim (λ e. absurd (omega arith)) (λ e. absurd (omega arith)) k
+pub not-cut : (r : Frame) → OneOf (0 ∷ 2 ∷ []) (tagOf Frame.the-type r) → r ≡ asEntry r
+not-cut (f.Entry t a n) k = refl
+not-cut f.End k = refl
+not-cut f.Cut k = ⊎-elim (λ e. absurd (omega arith)) (λ e. absurd (omega arith)) k
 
 -- ---- `holds`
 

@@ -71,14 +71,11 @@ fn item_at(left: usize, s: &[u8], at: usize) -> Frame
     ensures { λ r. ⌜ r ≡ itemAt left (now (s .entry)) at ⌝ }
 {
     if left == LEVELS {
-        return match tlv::frame_at(s, at) {
-            Frame::Entry { ty, start, len } => Frame::Entry {
-                ty: ty,
-                start: start,
-                len: len,
-            },
-            _ => Frame::End,
+        let entry = tlv::frame_at(s, at);
+        let Frame::Cut = entry else {
+            return entry;
         };
+        return Frame::End; // which the payload's count refuses
     }
     match network_framing::sub_at(s, at) {
         SubTlv::Item { ty, start, len } => Frame::Entry {

@@ -1,5 +1,5 @@
 //! The nested listing, which the Rust does not have: document 02's text over the Rust's entries, and over Network Data by
-//! document 01's layout. The Rust decodes each Network Data TLV too, and must find in it what its lines tell. `nested`.
+//! document 01's layout. The Rust decodes Network Data too, and must find in it what the lines tell. `nested`.
 
 use meshcop::meshcop::diag::{NetworkData, PrefixEntry};
 
@@ -43,6 +43,7 @@ pub fn nested(payload: &[u8], cap: u64) -> Answer {
     lent(text.as_bytes(), cap)
 }
 
+/// The Rust stops at a value's first fault, so it is asked about each part too.
 fn network_data_lines(value: &[u8]) -> Vec<Line> {
     let mut lines = Vec::new();
     for part in parts(value) {
@@ -50,6 +51,7 @@ fn network_data_lines(value: &[u8]) -> Vec<Line> {
         see_that_the_rust_finds(part, &of_part);
         lines.extend(of_part);
     }
+    see_that_the_rust_finds(value, &lines);
     lines
 }
 
@@ -89,12 +91,12 @@ fn parts(list: &[u8]) -> Vec<&[u8]> {
 type Rows = [usize; 3];
 
 /// That the Rust finds the prefixes and rows that the lines tell of, or refuses as the first fault that they tell of.
-fn see_that_the_rust_finds(part: &[u8], lines: &[Line]) {
-    let by_rust = match NetworkData::decode(part) {
+fn see_that_the_rust_finds(network_data: &[u8], lines: &[Line]) {
+    let by_rust = match NetworkData::decode(network_data) {
         Ok(data) => Ok(data.prefixes.iter().map(rows_of).collect()),
         Err(error) => Err(decoded::number_of(&error)),
     };
-    assert_eq!(by_rust, prefixes_told(lines), "the Rust and the lines on Network Data {}", bytes_word(part));
+    assert_eq!(by_rust, prefixes_told(lines), "the Rust and the lines on Network Data {}", bytes_word(network_data));
 }
 
 fn rows_of(prefix: &PrefixEntry) -> Rows {
