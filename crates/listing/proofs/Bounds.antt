@@ -1,7 +1,7 @@
 -- How large an answer can be. `report-short`: what the program `list` prints has at most `reportBytes` bytes; `report-written`: so that it always prints.
--- And `hex-refuses`: a text is never refused under 11, which is left for the room. The first section but two is for any listing.
+-- And `hex-refuses`: a text is never refused with 11, which is left for the room. All but the last section is for any listing.
 -- Assumes nothing.
-use mathlib.Core.Path.{_≡_, refl, sym, subst}
+use mathlib.Core.Path.{_≡_, sym, subst}
 use mathlib.Core.List.{List, [], _∷_, _++_}
 use Prim.Native.Nat.{ℕ, _+_, _*_, _%_, _≤_, _<_}
 use native.Mathlib.Omega.{arith}
@@ -20,10 +20,10 @@ use Rattle.base16.specs.Loops.{isDigit, allDigits, firstBad, paired}
 use Rattle.base16.proofs.RoundTrips.{decoded-fits, decoded-bytes}
 use Rattle.base16.proofs.Decodes.{decoded-large, decoded-odd, decoded-bad, decoded-good}
 use Rattle.text_writing.proofs.Decimals.{length-below}
-use Rattle.listing.specs.Listing.{pairLine, entryLines, listing, listed, listedHex, lineOf, told, reportBy, report, reportBytes}
+use Rattle.listing.specs.Listing.{pairLine, entryLines, listing, listed, listedHex, hexBy, lineOf, told, reportBy, report, reportBytes}
 use Rattle.listing.proofs.Lines.{line-below, length-listing}
-use Rattle.listing.proofs.Fits.{Fits, Stops, framing-fits, place-within}
-use Rattle.listing.proofs.Reports.{length-told}
+use Rattle.tlv.proofs.Fits.{Fits, Stops, framing-fits, place-within}
+use Rattle.listing.proofs.Reports.{length-refused}
 
 -- G of what is given; and a refusal is not 11, at a place within any input
 abbrev pub Bounded : {A : Type 0} → (A → Type 0) → Answer A → Type 0
@@ -37,7 +37,7 @@ then-bounded G H (given x) f g h = h x g
 then-bounded G H absent f g h = tt
 then-bounded G H (refused n p i) f g h = g
 
-pub on-bounded : {A B : Type 0} (G : A → Type 0) (H : B → Type 0) (a : Answer A) (f : A → B)
+on-bounded : {A B : Type 0} (G : A → Type 0) (H : B → Type 0) (a : Answer A) (f : A → B)
     → Bounded G a → ((x : A) → G x → H (f x)) → Bounded H (onGiven f a)
 on-bounded G H (given x) f g h = h x g
 on-bounded G H absent f g h = tt
@@ -98,19 +98,20 @@ told-short : (most : ℕ) → 17 ≤ most → (a : Answer (List ℕ)) → Bounde
 unfolding told
 told-short most room (given t) b = b
 told-short most room absent b = omega arith
-told-short most room (refused n p i) b = omega (arith, length-told n p i, line-below 1 4 n p (omega arith) (omega arith))
+told-short most room (refused n p i) b = omega (arith, length-refused n p, line-below 1 4 n p (omega arith) (omega arith))
 
 module _ (most : ℕ) (lists : List ℕ → Answer (List ℕ)) (bounded : (bs : List ℕ) → Decodes bs → Bounded (AtMost most) (lists bs)) where
-  text-bounded : (x : List ℕ) → Bounded (AtMost most) (thenDo (decoded x) lists)
+  text-bounded : (x : List ℕ) → Bounded (AtMost most) (hexBy lists x)
+  unfolding hexBy
   text-bounded x = then-bounded Decodes (AtMost most) (decoded x) lists (decoded-bounded x) bounded
 
-  pub text-refuses : (x : List ℕ) (n p i : ℕ) → thenDo (decoded x) lists ≡ refused n p i → n < 11
+  pub text-refuses : (x : List ℕ) (n p i : ℕ) → hexBy lists x ≡ refused n p i → n < 11
   text-refuses x n p i e = subst (Bounded (AtMost most)) e (text-bounded x) .0
 
   module _ (room : 17 ≤ most) (x : List ℕ) where
     pub text-short : length (reportBy lists x) ≤ most
     unfolding reportBy
-    text-short = told-short most room (thenDo (decoded (lineOf x)) lists) (text-bounded (lineOf x))
+    text-short = told-short most room (hexBy lists (lineOf x)) (text-bounded (lineOf x))
 
     pub text-written : (out : List ℕ) → most ≤ length out
         → emit (given (reportBy lists x)) out ≡ output (given (length (reportBy lists x))) (reportBy lists x ++ drop (length (reportBy lists x)) out)
@@ -135,7 +136,6 @@ unfolding listed
 listed-bounded bs d = on-bounded Listable (AtMost reportBytes) (framed 0 bs) listing (framed-bounded bs d) listing-short
 
 pub hex-refuses : (x : List ℕ) (n p i : ℕ) → listedHex x ≡ refused n p i → n < 11
-unfolding listedHex
 hex-refuses = text-refuses reportBytes listed listed-bounded
 
 -- THE BOUND of what the program prints

@@ -13,11 +13,13 @@ use Rattle.refusal.specs.Answer.{Answer, given, refused, thenDo}
 use Rattle.refusal.specs.Output.{output, emit}
 use Rattle.base16.specs.Base16.{decoded}
 use Rattle.base16.proofs.RoundTrips.{decoded-fits}
+use Rattle.listing.specs.Listing.{hexBy}
 use Rattle.laws.proofs.Callers.{Refuses, itself, no-room, gave, refuses}
 
 module _ (lists : List ℕ → Answer (List ℕ)) (x out left : List ℕ) where
   -- the part from 0 to n
-  pub hex-given : (n : ℕ) → output (given n) left ≡ emit (decoded x) out → thenDo (decoded x) lists ≡ lists (take (n - 0) left)
+  pub hex-given : (n : ℕ) → output (given n) left ≡ emit (decoded x) out → hexBy lists x ≡ lists (take (n - 0) left)
+  unfolding hexBy
   hex-given n e =
       let g = gave out left (decoded x) n e in
       let count = sub-zero n ∙ g .count in
@@ -25,9 +27,10 @@ module _ (lists : List ℕ → Answer (List ℕ)) (x out left : List ℕ) where
       rw (g .are) (ap lists (sym bytes))
 
   pub hex-refused : (n p i : ℕ) → mostBytes ≤ length out → output (refused n p i) left ≡ emit (decoded x) out
-      → refused n p i ≡ thenDo (decoded x) lists
+      → refused n p i ≡ hexBy lists x
+  unfolding hexBy
   hex-refused n p i room e = by (refuses out left (decoded x) n p i e)
     where
-      by : Refuses (decoded x) out left n p i → refused n p i ≡ thenDo (decoded x) lists
+      by : Refuses (decoded x) out left n p i → refused n p i ≡ hexBy lists x
       by (itself is _) = sym (ap (λ (a : Answer (List ℕ)). thenDo a lists) is)
       by (no-room bytes is short _) = absurd (omega (arith, decoded-fits x bytes is))

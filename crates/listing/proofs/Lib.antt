@@ -2,6 +2,5 @@ pub mod Lines
 pub mod Counts
 pub mod Hexes
 pub mod Reports
-pub mod Fits
 pub mod Bounds
 pub mod Tells

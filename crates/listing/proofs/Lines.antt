@@ -13,7 +13,7 @@ use Rattle.tlv.specs.Place.{frameAt}
 use Rattle.tlv.proofs.Walks.{from, from-start, turn-inside, turn-entries}
 use Rattle.text_writing.specs.Decimal.{decimal}
 use Rattle.text_writing.proofs.Decimals.{length-below}
-use Rattle.listing.specs.Listing.{pairLine, entryLines, listing}
+use Rattle.listing.specs.Listing.{pairLine, firstLine, entryLines, listing}
 
 pub length-line : (a b : ℕ) → length (pairLine a b) ≡ length (decimal a) + length (decimal b) + 2
 unfolding pairLine
@@ -28,7 +28,7 @@ pub line-below : (j k a b : ℕ) → a < 10 ^ suc j → b < 10 ^ suc k → lengt
 line-below j k a b h l = omega (arith, length-line a b, length-below j a h, length-below k b l)
 
 pub length-listing : (es : List Entry) → length (listing es) ≡ 9 + length (decimal (length es)) + length (entryLines es)
-unfolding listing
+unfolding listing firstLine
 length-listing es =
     omega (arith, length-append (decimal (length es) ++ (10 ∷ [])) (entryLines es), length-append (decimal (length es)) (10 ∷ []))
 

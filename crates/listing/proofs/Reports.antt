@@ -13,7 +13,7 @@ use Rattle.refusal.specs.Sizes.{mostDigits}
 use Rattle.refusal.specs.Answer.{Answer, refused, thenDo}
 use Rattle.laws.proofs.Tests.{by-test, pick-all}
 use Rattle.base16.proofs.Decodes.{decoded-large}
-use Rattle.listing.specs.Listing.{pairLine, lineOf, told, reportBy, reportReads}
+use Rattle.listing.specs.Listing.{pairLine, hexBy, lineOf, refusedLine, told, reportBy, reportReads}
 
 module _ (x : List ℕ) where
   pub line-dropped : getD x (length x - 1) 0 ≡ 10 → length x - 1 ≡ length (lineOf x)
@@ -37,9 +37,9 @@ unfolding lineOf
 line-none [] h = refl
 line-none (b ∷ x) h = absurd (omega arith)
 
-pub length-told : (n p i : ℕ) → length (told (refused n p i)) ≡ 8 + length (pairLine n p)
-unfolding told
-length-told n p i = omega arith
+pub length-refused : (n p : ℕ) → length (refusedLine n p) ≡ 8 + length (pairLine n p)
+unfolding refusedLine
+length-refused n p = omega arith
 
 -- ---- what is printed for a text that is too long does not depend on the rest of it, nor on how its bytes would be listed
 
@@ -51,7 +51,7 @@ line-length x =
 
 module _ (lists : List ℕ → Answer (List ℕ)) where
   report-large : (x : List ℕ) → mostDigits + 1 < length x → reportBy lists x ≡ told (refused 1 0 0)
-  unfolding reportBy
+  unfolding reportBy hexBy
   report-large x h = ap (λ (a : Answer (List ℕ)). told (thenDo a lists)) (sym (decoded-large (lineOf x) (omega (arith, line-length x))))
 
   pub report-reads : (x : List ℕ) → reportBy lists x ≡ reportBy lists (take reportReads x)

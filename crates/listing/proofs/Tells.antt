@@ -1,12 +1,12 @@
 -- What a program's text learns of its listing of hex text: the answer is already the program's, or it is a refusal to be told, with the output as it was.
 -- Assumes nothing.
-use mathlib.Core.Path.{_≡_, refl, ap, _∙_}
+use mathlib.Core.Path.{_≡_, _∙_}
 use mathlib.Core.List.{List}
 use Prim.Native.Nat.{ℕ, _<_}
 use native.Mathlib.Omega.{arith}
 use Rattle.refusal.specs.Answer.{Answer, given, refused}
 use Rattle.refusal.specs.Output.{output, emit}
-use Rattle.listing.specs.Listing.{told}
+use Rattle.listing.specs.Listing.{refusedLine, told}
 use Rattle.laws.proofs.Callers.{Refuses, itself, no-room, gave, refuses}
 
 -- a text is told as it is
@@ -14,12 +14,11 @@ told-text : (a : Answer (List ℕ)) (out text : List ℕ) → a ≡ given text �
 unfolding told
 told-text a out text e = rw e
 
--- the line does not say which input
-told-line : (n p i : ℕ) → told (refused n p i) ≡ told (refused n p 0)
+told-refusal : (a : Answer (List ℕ)) (n p i : ℕ) → a ≡ refused n p i → told a ≡ refusedLine n p
 unfolding told
-told-line n p i = refl
+told-refusal a n p i e = rw e
 
--- a listing, which is never refused under 11
+-- a listing, which is never refused with 11
 module _ (a : Answer (List ℕ)) (never : (n p i : ℕ) → a ≡ refused n p i → n < 11) (out left : List ℕ) where
   pub tells-given : (n : ℕ) → output (given n) left ≡ emit a out → output (given n) left ≡ emit (given (told a)) out
   tells-given n e =
@@ -35,9 +34,9 @@ module _ (a : Answer (List ℕ)) (never : (n p i : ℕ) → a ≡ refused n p i 
         by (itself is _) = absurd (omega (arith, never n p i is))
         by (no-room text is _ _) = e ∙ told-text a out text is
 
-    pub tells-refusal : (n ≡ 11 → ⊥) → (left ≡ out) × (told a ≡ told (refused n p 0))
+    pub tells-refusal : (n ≡ 11 → ⊥) → (left ≡ out) × (told a ≡ refusedLine n p)
     tells-refusal other = by (refuses out left a n p i e)
       where
-        by : Refuses a out left n p i → (left ≡ out) × (told a ≡ told (refused n p 0))
-        by (itself is kept) = (kept, ap told is ∙ told-line n p i)
+        by : Refuses a out left n p i → (left ≡ out) × (told a ≡ refusedLine n p)
+        by (itself is kept) = (kept, told-refusal a n p i is)
         by (no-room text is _ eleven) = absurd (other eleven)

@@ -21,33 +21,45 @@ unfoldable pub entryLines : List Entry → List ℕ
 entryLines [] = []
 entryLines (e ∷ es) = pairLine (e .ty) (length (e .value)) ++ entryLines es
 
--- "entries " and their count, then their lines
+-- "entries " and their count
+unfoldable pub firstLine : (count : ℕ) → List ℕ
+firstLine n = (101 ∷ 110 ∷ 116 ∷ 114 ∷ 105 ∷ 101 ∷ 115 ∷ 32 ∷ []) ++ decimal n ++ (10 ∷ [])
+
+-- then their lines
 unfoldable pub listing : List Entry → List ℕ
-listing es = (101 ∷ 110 ∷ 116 ∷ 114 ∷ 105 ∷ 101 ∷ 115 ∷ 32 ∷ []) ++ decimal (length es) ++ (10 ∷ []) ++ entryLines es
+listing es = firstLine (length es) ++ entryLines es
 
 -- the listing of a dataset's bytes: 1, 2, 3
 unfoldable pub listed : List ℕ → Answer (List ℕ)
 listed s = onGiven listing (framed 0 s)
 
--- the listing of a dataset in hex text: 1, 7, 8, then 2, 3, whose places "count decoded bytes"
-unfoldable pub listedHex : List ℕ → Answer (List ℕ)
-listedHex x = thenDo (decoded x) listed
+-- a listing of hex text, by how its bytes are listed: 1, 7, 8, then the listing's own, whose places "count decoded bytes"
+unfoldable pub hexBy : (List ℕ → Answer (List ℕ)) → List ℕ → Answer (List ℕ)
+hexBy lists x = thenDo (decoded x) lists
+
+-- the flat one: 1, 7, 8, 2, 3
+abbrev pub listedHex : List ℕ → Answer (List ℕ)
+listedHex x = hexBy listed x
 
 -- "dropping one final newline"
 unfoldable pub lineOf : List ℕ → List ℕ
 lineOf x = pick (eqb (getD x (length x - 1) 0) 10) (take (length x - 1) x) x
 
--- the text itself, or "refused ", the number and the place
+-- "one line `refused`, number, place"
+unfoldable pub refusedLine : (number place : ℕ) → List ℕ
+refusedLine n p = (114 ∷ 101 ∷ 102 ∷ 117 ∷ 115 ∷ 101 ∷ 100 ∷ 32 ∷ []) ++ pairLine n p
+
+-- the text itself, or that line
 unfoldable pub told : Answer (List ℕ) → List ℕ
 told (given t) = t
 told absent = []
-told (refused n p i) = (114 ∷ 101 ∷ 102 ∷ 117 ∷ 115 ∷ 101 ∷ 100 ∷ 32 ∷ []) ++ pairLine n p
+told (refused n p i) = refusedLine n p
 
--- what a listing program prints for its standard input, by how it lists the bytes of the hex text
+-- what a listing program prints for its standard input, by how it lists bytes
 unfoldable pub reportBy : (List ℕ → Answer (List ℕ)) → List ℕ → List ℕ
-reportBy lists x = told (thenDo (decoded (lineOf x)) lists)
+reportBy lists x = told (hexBy lists (lineOf x))
 
--- the program `list`
+-- what the program `list` prints
 abbrev pub report : List ℕ → List ℕ
 report x = reportBy listed x
 

@@ -6,15 +6,15 @@ use tlv::Frame;
 ghost use mathlib.Core.Path.{_≡_};
 ghost use mathlib.Core.List.{[], _∷_};
 ghost use lib.ListN.{length};
-ghost use Rattle.refusal.specs.Answer.{given, refused};
+ghost use Rattle.refusal.specs.Answer.{given};
 ghost use Rattle.refusal.specs.Output.{output, emit, placing, writtenAnswer};
 ghost use Rattle.tlv.specs.Entries.{framing};
 ghost use Rattle.text_writing.specs.Laid.{laid};
-ghost use Rattle.listing.specs.Listing.{pairLine, entryLines, listing, listed, listedHex, lineOf, told, report, reportReads, reportBytes};
+ghost use Rattle.listing.specs.Listing.{pairLine, entryLines, listing, listed, listedHex, lineOf, refusedLine, report, reportReads, reportBytes};
 
-// The program `list` reads no more than this: with one byte more than the digits and their newline, a text that is too long is told apart.
+// A listing program reads no more than this: with one byte more than the digits and their newline, a text that is too long is told apart.
 pub const REPORT_READS: usize = refusal::MAX_DIGITS + 2;
-// And what it prints is never longer than this.
+// What `list` prints is never longer than this.
 pub const REPORT_BYTES: usize = 16 * refusal::MAX_ENTRIES;
 
 // The public constants, held to their numbers.
@@ -107,24 +107,24 @@ pub fn line_end(input: &[u8]) -> usize
     n
 }
 
-// The line that tells a refusal into out; the place after it.
-fn put_told(number: u8, place: usize, out: &mut [u8]) -> usize
-    ensures { λ r. ⌜ placing r (now (out .exit)) ≡ laid 0 (now (out .entry)) (told (refused number place 0)) ⌝ }
+// The line of a refusal into out; the place after it.
+fn put_refused(number: u8, place: usize, out: &mut [u8]) -> usize
+    ensures { λ r. ⌜ placing r (now (out .exit)) ≡ laid 0 (now (out .entry)) (refusedLine number place) ⌝ }
 {
     let word = text_writing::put_text(b"refused ", out, 0);
     put_line(number as usize, place, out, word)
 }
 
-// The line that tells a refusal, at the start of out. Refusal: 11.
+// The line of a refusal, at the start of out. Refusal: 11.
 pub fn tell(number: u8, place: usize, out: &mut [u8]) -> Written
-    ensures { λ r. ⌜ output (writtenAnswer r) (now (out .exit)) ≡ emit (given (told (refused number place 0))) (now (out .entry)) ⌝ }
+    ensures { λ r. ⌜ output (writtenAnswer r) (now (out .exit)) ≡ emit (given (refusedLine number place)) (now (out .entry)) ⌝ }
 {
     let mut no_room = [0u8; 0];
-    let need = put_told(number, place, &mut no_room);
+    let need = put_refused(number, place, &mut no_room);
     if need > out.len() {
         return refusal::refuse(Fault::NoRoom, 0);
     }
-    put_told(number, place, out);
+    put_refused(number, place, out);
     Written::Bytes(need)
 }
 

@@ -1,32 +1,32 @@
--- The length of the text in the payload's. `nested-short`: seven bytes of text for each byte of the payload are enough (six are not: Worked.antt). So what the
+-- The length of the text in the payload's. `nested-short`: seven bytes of text for each byte of the payload are enough (six are not: `six-too-few`, worked/proofs/NestedListing.antt). So what the
 -- program `nested` prints has at most `nestedReportBytes` bytes (`report-short`), and it always prints (`report-written`).
 -- Assumes nothing.
-use mathlib.Core.Path.{_≡_, refl, sym, ap, subst, _∙_}
+use mathlib.Core.Path.{_≡_}
 use mathlib.Core.List.{List, [], _∷_, _++_}
 use Prim.Native.Nat.{ℕ, zero, suc, _+_, _-_, _*_, _≤_, _<_}
 use native.Mathlib.Omega.{arith}
 use lib.ListN.{length, length-append, length-replicate, take, drop, length-drop, length-take}
-use lib.Seq.{take-all, length-take-le}
-use lib.Dec.{leb, ltb, eqb}
-use borrow.Author.Tests.{leb-true, leb-false, ltb-true, eqb-true}
-use Rattle.refusal.specs.Sizes.{mostBytes}
+use lib.Seq.{length-take-le}
+use lib.Dec.{leb, eqb}
+use borrow.Author.Tests.{leb-true, eqb-true}
 use Rattle.refusal.specs.Answer.{Answer, given, absent, refused, onGiven}
 use Rattle.refusal.specs.Output.{output, emit}
-use Rattle.refusal.specs.Every.{Every, Bytes}
+use Rattle.refusal.specs.Every.{Bytes}
 use Rattle.laws.proofs.Tests.{pick-all}
 use Rattle.laws.proofs.Parts.{every-take, every-drop}
+use Rattle.laws.proofs.Answers.{gives}
 use Rattle.tlv.specs.Entries as entries
 use Rattle.tlv.specs.Limits.{framed}
 use Rattle.tlv.proofs.Tally.{Holds, framed-holds}
 use Rattle.network_framing.specs.Tlvs as tlvs
-use Rattle.network_framing.specs.Frame.{part, walkIn}
+use Rattle.network_framing.proofs.Walks.{walk-whole}
 use Rattle.text_writing.specs.Decimal.{decimal}
 use Rattle.text_writing.proofs.Decimals.{length-one, length-few, length-below}
 use Rattle.listing.specs.Listing.{pairLine}
 use Rattle.listing.proofs.Lines.{length-line}
-use Rattle.listing.proofs.Fits.{FirstFits, first-fits}
+use Rattle.tlv.proofs.Fits.{FirstFits, first-fits}
 use Rattle.listing.proofs.Bounds.{Bounded, Decodes, Listable, AtMost, framed-bounded, text-refuses, text-short, text-written}
-use Rattle.nested_listing.specs.Tree.{Items, none, cut, item, indent, itemLine, cutLine, lines}
+use Rattle.nested_listing.specs.Tree.{Items, none, item, indent, itemLine, cutLine, lines}
 use Rattle.nested_listing.specs.Nested.{pieces, tlvs, thirdHolds, inner, afterOpening, secondHolds, network, firstHolds, payload, nested}
 use Rattle.nested_listing.specs.Report.{nestedHex, nestedReport, nestedReportBytes}
 
@@ -63,12 +63,12 @@ first-weighs (t ∷ l ∷ rest) b =
     (omega arith, omega arith, every-drop _ l rest (b .1 .1), omega (arith, leb-true, length-drop l rest)))
     (λ e. omega arith)
 
--- an item, with what it holds, takes seven times its bytes; and the word at the end takes seven, and `over` more
+-- an item, with what it holds, takes at most seven times its bytes; and the word at the end at most seven and `over` more
 module _ (l over : ℕ) (room : 2 * l + 4 ≤ 7 + over) (holds : ℕ → List ℕ → Items) (v : List ℕ) (bytes : Bytes v)
     (light : (t n : ℕ) (u : List ℕ) → t < 128 → n < 256 → length u ≤ n → Bytes u
     → length (itemLine l t n) + length (lines (suc l) (holds t u)) ≤ 7 * (2 + n)) where
   abbrev Light : List ℕ → tlvs.Walk → Type 0
-  Light s w = length (lines l (tlvs holds v w)) ≤ 7 * length s + over
+  Light s w = length (lines l (pieces holds v (w .stop) (w .items))) ≤ 7 * length s + over
 
   step-light : (s : List ℕ) (at : ℕ) (x : tlvs.First) (next : ℕ → List ℕ → tlvs.Walk) → Weighs s x
       → ((k : ℕ) (r : List ℕ) → Bytes r → Light r (next k r)) → Light s (tlvs.step at x next)
@@ -78,21 +78,17 @@ module _ (l over : ℕ) (room : 2 * l + 4 ≤ 7 + over) (holds : ℕ → List �
   step-light s at (tlvs.one t u rest) next w go =
       let value = take (length u) (drop (at + 2) v) in
       let own = light t (length u) value (w .0) (w .1) (omega (arith, length-take (length u) (drop (at + 2) v))) (every-take _ (length u) (drop (at + 2) v) (every-drop _ (at + 2) v bytes)) in
-      let after = tlvs holds v (next (at + 2 + length u) rest) in
-      omega (arith, w .3, own, length-more l t (length u) (holds t value) after, go (at + 2 + length u) rest (w .2))
+      let on = next (at + 2 + length u) rest in
+      omega
+      (arith, w .3, own, length-more l t (length u) (holds t value) (pieces holds v (on .stop) (on .items)), go (at + 2 + length u) rest (w .2))
 
   frames-light : (fuel at : ℕ) (s : List ℕ) → Bytes s → Light s (tlvs.frames fuel at s)
   unfolding tlvs.frames pieces lines
   frames-light zero at s b = omega arith
   frames-light (suc fuel) at s b = step-light s at (tlvs.first s) _ (first-weighs s b) (λ k r c. frames-light fuel k r c)
 
-  walk-light : Light v (walkIn v 0 (length v))
-  unfolding walkIn pieces lines
-  walk-light =
-      pick-all (Light v) (leb (length v) 0) (tlvs.done tlvs.clean) _ (λ e. omega arith)
-      (λ e. pick-all (Light v) (ltb (length v) (length v)) (tlvs.done tlvs.short) _ (λ f. absurd (omega (arith, ltb-true)))
-      (λ f. let all : part v 0 (length v) ≡ v = take-all (length v - 0) v (omega arith) in
-      rw all (frames-light (length v - 0) 0 v bytes)))
+  walk-light : length (lines l (tlvs holds v)) ≤ 7 * length v + over
+  walk-light = rw (walk-whole v) (frames-light (length v) 0 v bytes)
 
 inner-light : (v : List ℕ) → Bytes v → length (lines 2 (inner v)) ≤ 7 * length v + 1
 unfolding inner lines
@@ -100,20 +96,20 @@ inner-light v b =
     walk-light 2 1 (omega arith) thirdHolds v b
     (λ t n u h k s c. omega (arith, length-item 2 t n, length-below 2 t (omega arith), length-few n))
 
-abbrev Opens : List ℕ → tlvs.Opening → Type 0
-Opens u tlvs.broken = Unit {0}
-Opens u (tlvs.opening d b bytes rest) = Bytes rest × (2 + length rest ≤ length u)
+abbrev OpensWithin : List ℕ → tlvs.Opening → Type 0
+OpensWithin u tlvs.broken = Unit {0}
+OpensWithin u (tlvs.opening d b bytes rest) = Bytes rest × (2 + length rest ≤ length u)
 
-opened-opens : (u : List ℕ) → Bytes u → Opens u (tlvs.opened u)
+opened-opens : (u : List ℕ) → Bytes u → OpensWithin u (tlvs.opened u)
 unfolding tlvs.opened
 opened-opens [] c = tt
 opened-opens (d ∷ []) c = tt
 opened-opens (d ∷ b ∷ rest) c =
-    pick-all (Opens (d ∷ b ∷ rest)) (leb (tlvs.bytesFor b) (length rest)) _ tlvs.broken
+    pick-all (OpensWithin (d ∷ b ∷ rest)) (leb (tlvs.bytesFor b) (length rest)) _ tlvs.broken
     (λ e. (every-drop _ (tlvs.bytesFor b) rest (c .1 .1), omega (arith, length-drop (tlvs.bytesFor b) rest))) (λ e. tt)
 
 -- a prefix's own line has one digit for its type
-prefix-light : (n : ℕ) (u : List ℕ) (o : tlvs.Opening) → n < 256 → length u ≤ n → Opens u o
+prefix-light : (n : ℕ) (u : List ℕ) (o : tlvs.Opening) → n < 256 → length u ≤ n → OpensWithin u o
     → length (itemLine 1 1 n) + length (lines 2 (afterOpening o)) ≤ 7 * (2 + n)
 unfolding afterOpening lines
 prefix-light n u tlvs.broken k s w = omega (arith, length-item 1 1 n, length-one 1 (omega arith), length-few n, length-cut 2)
@@ -176,37 +172,28 @@ payload-light s b = entries-light (length s) 0 s b
 abbrev Lines : ℕ → List entries.Entry → Type 0
 Lines most es = length (lines 0 (payload es)) ≤ most
 
-abbrev Texts : ℕ → Answer (List ℕ) → Type 0
-Texts most (given t) = length t ≤ most
-Texts most absent = Unit {0}
-Texts most (refused n p i) = Unit {0}
-
-texts : (most : ℕ) (a : Answer (List entries.Entry)) → Holds 0 (Lines most) a → Texts most (onGiven (λ (es : List entries.Entry). lines 0 (payload es)) a)
-texts most (given es) h = h
-texts most absent h = tt
-texts most (refused n p i) h = tt
-
 -- THE BOUND of the text
 pub nested-short : (s text : List ℕ) → Bytes s → nested s ≡ given text → length text ≤ 7 * length s
 unfolding nested
-nested-short s text b e = subst (Texts (7 * length s)) e (texts _ (framed 0 s) (framed-holds 0 (Lines (7 * length s)) s (payload-light s b)))
+nested-short s text b e =
+    let es = gives (λ (es : List entries.Entry). lines 0 (payload es)) (framed 0 s) text e in
+    rw (← es .so) (rw (es .is) at (framed-holds 0 (Lines (7 * length s)) s (payload-light s b)))
 
 -- ---- the program
 
-both : (most : ℕ) (a : Answer (List entries.Entry)) → Bounded Listable a → Holds 0 (Lines most) a
+text-bounded : (most : ℕ) (a : Answer (List entries.Entry)) → Bounded Listable a → Holds 0 (Lines most) a
     → Bounded (AtMost most) (onGiven (λ (es : List entries.Entry). lines 0 (payload es)) a)
-both most (given es) g h = h
-both most absent g h = tt
-both most (refused n p i) g h = g
+text-bounded most (given es) g h = h
+text-bounded most absent g h = tt
+text-bounded most (refused n p i) g h = g
 
 nested-bounded : (bs : List ℕ) → Decodes bs → Bounded (AtMost nestedReportBytes) (nested bs)
 unfolding nested
 nested-bounded bs d =
-    both nestedReportBytes (framed 0 bs) (framed-bounded bs d)
+    text-bounded nestedReportBytes (framed 0 bs) (framed-bounded bs d)
     (framed-holds 0 (Lines nestedReportBytes) bs (omega (arith, payload-light bs (d .1), d .0)))
 
 pub hex-refuses : (x : List ℕ) (n p i : ℕ) → nestedHex x ≡ refused n p i → n < 11
-unfolding nestedHex
 hex-refuses = text-refuses nestedReportBytes nested nested-bounded
 
 pub report-short : (x : List ℕ) → length (nestedReport x) ≤ nestedReportBytes

@@ -1,4 +1,3 @@
-pub mod Texts
 pub mod Turns
 pub mod Order
 pub mod Bounds

@@ -1,4 +1,4 @@
--- What the code finds in a list, by how many levels are left: a turn of the loop over its items, and what an item holds.
+-- What the code finds in a list, by the nesting that is still allowed: a turn of the loop over its items, and what an item holds.
 -- Assumes nothing.
 use mathlib.Core.Path.{_≡_, refl, sym, ap, _∙_, subst}
 use mathlib.Core.Bool.{true, false}
@@ -6,17 +6,17 @@ use mathlib.Core.List.{List, [], _∷_, _++_, append-nil}
 use mathlib.Core.Logic.{⊎-elim}
 use types.Run.{OneOf}
 use denote.Enum.Declared.{tagOf}
-use Prim.Native.Nat.{ℕ, suc, _+_, _-_, _≤_, _<_}
+use Prim.Native.Nat.{ℕ, zero, suc, _+_, _-_, _*_, _≤_}
 use native.Mathlib.Omega.{arith}
 use native.Mathlib.Nat.{le-refl}
-use lib.ListN.{length, take, drop, getD, length-drop}
+use lib.ListN.{length, take, drop, length-drop}
 use lib.Seq.{take-all, length-take-le}
-use lib.Dec.{leb, ltb, eqb}
-use borrow.Author.Tests.{leb-true, ltb-true, eq-eqb, ne-eqb}
+use lib.Dec.{leb, eqb}
+use borrow.Author.Tests.{leb-true, ne-eqb}
 use Rattle.refusal.specs.Answer.{pick, Answer, given, absent, refused}
 use Rattle.laws.proofs.Tests.{by-test, pick-all}
 use Rattle.laws.proofs.Parts.{length-part}
-use Rattle.tlv.specs.Entries.{Entry, entry, Framing, framing}
+use Rattle.tlv.specs.Entries.{Entry, Framing}
 use Rattle.tlv.specs.Limits.{count}
 use Rattle.tlv.specs.Place.{frameAt}
 use Rattle.tlv.specs.declared.Frame.{Frame}
@@ -24,27 +24,34 @@ use Rattle.tlv.specs.declared.Frame.the-variants as f
 use Rattle.tlv.proofs.Frame
 use Rattle.tlv.proofs.Walks as walks
 use Rattle.tlv.proofs.Tally.{answers-given, answers-refused}
-use Rattle.network_framing.specs.Tlvs.{bytesFor, Opening, broken, opening, opened, Walk, piece}
-use Rattle.network_framing.specs.Frame.{part, subIn, headAt, innerOf, walkIn, subAnswer, headAnswer}
+use Rattle.network_framing.specs.Tlvs.{bytesFor, Opening, broken, opened, Walk}
+use Rattle.network_framing.specs.Frame.{subIn, headAt, innerOf, walkIn, subAnswer}
 use Rattle.network_framing.specs.Place.{subPlace}
 use Rattle.network_framing.specs.declared.SubTlv.{SubTlv}
 use Rattle.network_framing.specs.declared.SubTlv.the-variants as sub
-use Rattle.network_framing.specs.declared.Head.{Head}
-use Rattle.network_framing.specs.declared.Head.the-variants.{Inner, Short}
-use Rattle.network_framing.proofs.Agrees.{sub-agrees, head-agrees}
+use Rattle.network_framing.proofs.Agrees.{sub-is}
 use Rattle.network_framing.proofs.Walks as subs
-use Rattle.nested_listing.specs.Tree.{Items, none, cut, item, itemLine, cutLine, lines}
-use Rattle.nested_listing.specs.Nested.{pieces, tlvs, thirdHolds, inner, afterOpening, secondHolds, network, firstHolds, payload, nested}
+use Rattle.nested_listing.specs.Tree.{Items, none, cut, item, indent, itemLine, cutLine, lines}
+use Rattle.nested_listing.specs.Nested.{pieces, tlvs, inner, afterOpening, secondHolds, network, firstHolds, payload, nested}
 use Rattle.nested_listing.specs.Levels.{asEntry, asTlv, itemAt, listOf, heldOf, listText, itemText}
+
+-- ---- `put_indent`: a part of four spaces
+
+pub blanks : (level : ℕ) → level ≤ 2 → take (2 * level - 0) (32 ∷ 32 ∷ 32 ∷ 32 ∷ []) ≡ indent level
+unfolding indent
+blanks zero h = refl
+blanks (suc zero) h = refl
+blanks (suc (suc zero)) h = refl
+blanks (suc (suc (suc l))) h = absurd (omega arith)
 
 -- ---- `item_at`, by what the framing of the level found
 
-module _ (left : ℕ) (s : List ℕ) (at : ℕ) where
-  pub item-first : left ≡ 3 → (r : Frame) → r ≡ frameAt s at → asEntry r ≡ itemAt left s at
+module _ (k : ℕ) (s : List ℕ) (at : ℕ) where
+  pub item-first : k ≡ 3 → (r : Frame) → r ≡ frameAt s at → asEntry r ≡ itemAt k s at
   unfolding itemAt
   item-first h r found = rw (h, found)
 
-  pub item-below : (left ≡ 3 → ⊥) → (r : SubTlv) → subAnswer r ≡ subIn s at (length s) → asTlv r ≡ itemAt left s at
+  pub item-below : (k ≡ 3 → ⊥) → (r : SubTlv) → subAnswer r ≡ subIn s at (length s) → asTlv r ≡ itemAt k s at
   unfolding itemAt
   item-below h r told = rw (ne-eqb _ _ h, subs.found s at (length s) r told)
 
@@ -55,30 +62,30 @@ not-cut f.Cut k = ⊎-elim (λ e. absurd (omega arith)) (λ e. absurd (omega ari
 
 -- ---- `holds`
 
-module _ (left ty : ℕ) (v : List ℕ) where
-  pub held-network : left ≡ 3 → ty ≡ 7 → listOf (left - 1) v ≡ heldOf left ty v
-  unfolding listOf heldOf firstHolds
-  held-network h k = rw (h, k)
+module _ (k ty : ℕ) (v : List ℕ) where
+  pub held-network : k ≡ 3 → ty ≡ 7 → listOf (k - 1) v ≡ heldOf k ty v
+  unfolding listOf heldOf firstHolds network
+  held-network h e = rw (h, e)
 
-  pub held-other : left ≡ 3 → (ty ≡ 7 → ⊥) → none ≡ heldOf left ty v
+  pub held-other : k ≡ 3 → (ty ≡ 7 → ⊥) → none ≡ heldOf k ty v
   unfolding heldOf firstHolds
-  held-other h k = rw (h, ne-eqb _ _ k)
+  held-other h e = rw (h, ne-eqb _ _ e)
 
-  pub held-prefix : left ≡ 2 → ty ≡ 1 → afterOpening (opened v) ≡ heldOf left ty v
+  pub held-prefix : k ≡ 2 → ty ≡ 1 → afterOpening (opened v) ≡ heldOf k ty v
   unfolding heldOf secondHolds
-  held-prefix h k = rw (h, k)
+  held-prefix h e = rw (h, e)
 
-  pub held-tlv : left ≡ 2 → (ty ≡ 1 → ⊥) → none ≡ heldOf left ty v
+  pub held-tlv : k ≡ 2 → (ty ≡ 1 → ⊥) → none ≡ heldOf k ty v
   unfolding heldOf secondHolds
-  held-tlv h k = rw (h, ne-eqb _ _ k)
+  held-tlv h e = rw (h, ne-eqb _ _ e)
 
-  pub held-last : (left ≡ 3 → ⊥) → (left ≡ 2 → ⊥) → none ≡ heldOf left ty v
+  pub held-last : (k ≡ 3 → ⊥) → (k ≡ 2 → ⊥) → none ≡ heldOf k ty v
   unfolding heldOf
-  held-last h k = simp (ne-eqb _ _ h, ne-eqb _ _ k)
+  held-last h e = simp (ne-eqb _ _ h, ne-eqb _ _ e)
 
-pub third-list : (left : ℕ) (v : List ℕ) → left ≡ 2 → listOf (left - 1) v ≡ inner v
-unfolding listOf
-third-list left v h = rw h
+pub third-list : (k : ℕ) (v : List ℕ) → k ≡ 2 → listOf (k - 1) v ≡ inner v
+unfolding listOf heldOf inner
+third-list k v h = rw h
 
 -- ---- where a prefix's list begins
 
@@ -98,168 +105,119 @@ opens-at (d ∷ b ∷ rest) =
     let q : 0 + (2 + bytesFor b) ≡ suc (suc (bytesFor b)) = omega arith in
     (omega (arith, leb-true), rw (n, q) refl)) (λ e. refl)
 
-no-bytes : (v : List ℕ) → length v ≤ 0 → cut ≡ afterOpening (opened v)
-unfolding opened afterOpening
-no-bytes [] h = refl
-no-bytes (b ∷ v) h = absurd (omega arith)
-
-head-opens : (v : List ℕ) → At v (headAt v 0 (length v)) (afterOpening (opened v))
-unfolding headAt
-head-opens v =
-    let is : Answer ℕ → Type 0 = λ x. At v x (afterOpening (opened v)) in
-    pick-all is (leb (length v) 0) (refused 5 0 0) _ (λ e. no-bytes v (leb-true _ _ e))
-    (λ e. pick-all is (ltb (length v) (length v)) (refused 5 0 0) _ (λ f. absurd (omega (arith, ltb-true)))
-    (λ f. let all : part v 0 (length v) ≡ v = take-all (length v - 0) v (omega arith) in
-    rw all (opens-at v)))
-
 module _ (v : List ℕ) where
-  pub head-inner : (a : ℕ) → given a ≡ headAt v 0 (length v) → (a ≤ length v) × (inner (drop a v) ≡ afterOpening (opened v))
-  head-inner a e = subst (λ (x : Answer ℕ). At v x (afterOpening (opened v))) (sym e) (head-opens v)
+  opens-there : (x : Answer ℕ) → x ≡ headAt v 0 (length v) → At v x (afterOpening (opened v))
+  opens-there x e = subst (λ (x : Answer ℕ). At v x (afterOpening (opened v))) (sym (e ∙ subs.head-whole v)) (opens-at v)
 
-  pub head-short : (n p i : ℕ) → refused n p i ≡ headAt v 0 (length v) → cut ≡ afterOpening (opened v)
-  head-short n p i e = subst (λ (x : Answer ℕ). At v x (afterOpening (opened v))) (sym e) (head-opens v)
+  pub prefix-list : (a : ℕ) → given a ≡ headAt v 0 (length v) → (a ≤ length v) × (inner (drop a v) ≡ afterOpening (opened v))
+  prefix-list a e = opens-there (given a) e
+
+  pub prefix-none : (n p i : ℕ) → refused n p i ≡ headAt v 0 (length v) → cut ≡ afterOpening (opened v)
+  prefix-none n p i e = opens-there (refused n p i) e
 
 -- ---- the list from a place on
 
-pub listFrom : (left : ℕ) → List ℕ → (at : ℕ) → Items
-listFrom left s at =
-    pick (eqb left 3) (payload (walks.from s at .entries))
-    (pick (eqb left 2) (tlvs secondHolds s (walkIn s at (length s))) (tlvs thirdHolds s (walkIn s at (length s))))
+abbrev tlvsIn : (holds : ℕ → List ℕ → Items) → List ℕ → Walk → Items
+tlvsIn holds v w = pieces holds v (w .stop) (w .items)
 
-pub textFrom : (left : ℕ) → List ℕ → (at : ℕ) → List ℕ
-textFrom left s at = lines (3 - left) (listFrom left s at)
+listFrom : (nesting : ℕ) → List ℕ → (at : ℕ) → Items
+listFrom k s at = pick (eqb k 3) (payload (walks.from s at .entries)) (tlvsIn (heldOf k) s (walkIn s at (length s)))
 
-pub text-start : (left : ℕ) (s : List ℕ) → textFrom left s 0 ≡ listText left s
-unfolding textFrom listFrom listText listOf network inner
-text-start left s =
-    ap (λ (w : Framing). lines (3 - left) (pick (eqb left 3) (payload (w .entries))
-    (pick (eqb left 2) (tlvs secondHolds s (walkIn s 0 (length s))) (tlvs thirdHolds s (walkIn s 0 (length s)))))) (walks.from-start s)
+pub textFrom : (nesting : ℕ) → List ℕ → (at : ℕ) → List ℕ
+textFrom k s at = lines (3 - k) (listFrom k s at)
 
--- what was found, by the framing of the level
-entry-of : (g : Frame) (t a n : ℕ) → asEntry g ≡ f.Entry t a n → g ≡ f.Entry t a n
-entry-of (f.Entry u b m) t a n e = e
-entry-of f.Cut t a n e = absurd (let z : _≡_ {A = ℕ} 0 1 = cc in omega arith)
-entry-of f.End t a n e = absurd (let z : _≡_ {A = ℕ} 0 1 = cc in omega arith)
+pub text-start : (k : ℕ) (s : List ℕ) → textFrom k s 0 ≡ listText k s
+unfolding textFrom listFrom listText listOf
+text-start k s = ap (λ (w : Framing). lines (3 - k) (pick (eqb k 3) (payload (w .entries)) (tlvs (heldOf k) s))) (walks.from-start s)
 
-never-cut : (g : Frame) → asEntry g ≡ f.Cut → ⊥
-never-cut (f.Entry u b m) e = let z : _≡_ {A = ℕ} 0 1 = cc in omega arith
-never-cut f.Cut e = let z : _≡_ {A = ℕ} 0 1 = cc in omega arith
-never-cut f.End e = let z : _≡_ {A = ℕ} 0 1 = cc in omega arith
+-- ---- a turn: the list from a place, by what stands there
 
-no-entries : (s : List ℕ) (at : ℕ) (g : Frame) → g ≡ frameAt s at → asEntry g ≡ f.End → walks.from s at .entries ≡ []
-no-entries s at (f.Entry u b m) found e = absurd (let z : _≡_ {A = ℕ} 0 1 = cc in omega arith)
-no-entries s at f.Cut found e = ap (λ (w : Framing). w .entries) (walks.turn-cut s at f.Cut found refl)
-no-entries s at f.End found e = ap (λ (w : Framing). w .entries) (walks.turn-end s at f.End found refl)
+abbrev byItem : (nesting : ℕ) → List ℕ → Frame → Items
+byItem k s (f.Entry t a n) = item t n (heldOf k t (take n (drop a s))) (listFrom k s (a + n))
+byItem k s f.Cut = cut
+byItem k s f.End = none
 
-tlv-of : (g : SubTlv) (t a n : ℕ) → asTlv g ≡ f.Entry t a n → g ≡ sub.Item t a n
-tlv-of (sub.Item u b m) t a n e = cc
-tlv-of sub.Cut t a n e = absurd (let z : _≡_ {A = ℕ} 0 1 = cc in omega arith)
-tlv-of sub.End t a n e = absurd (let z : _≡_ {A = ℕ} 0 1 = cc in omega arith)
+abbrev Inside : List ℕ → (at : ℕ) → Frame → Type 0
+Inside s at (f.Entry t a n) = (at + 2 ≤ a) × (a + n ≤ length s)
+Inside s at f.Cut = Unit {0}
+Inside s at f.End = Unit {0}
 
-cut-of : (g : SubTlv) → asTlv g ≡ f.Cut → g ≡ sub.Cut
-cut-of (sub.Item u b m) e = absurd (let z : _≡_ {A = ℕ} 0 1 = cc in omega arith)
-cut-of sub.Cut e = refl
-cut-of sub.End e = absurd (let z : _≡_ {A = ℕ} 0 1 = cc in omega arith)
+module _ (k : ℕ) (s : List ℕ) (at : ℕ) where
+  entry-step : eqb k 3 ≡ true → (r : Frame) → r ≡ frameAt s at → listFrom k s at ≡ byItem k s (asEntry r)
+  unfolding listFrom heldOf payload
+  entry-step h (f.Entry t a n) found =
+      let len = length-part s a n (walks.turn-inside s at (f.Entry t a n) found t a n refl .1) in
+      simp h (ap payload (walks.turn-entries s at (f.Entry t a n) found t a n refl) ∙ rw len)
+  entry-step h f.Cut found = simp h (ap (λ (w : Framing). payload (w .entries)) (walks.turn-cut s at f.Cut found refl))
+  entry-step h f.End found = simp h (ap (λ (w : Framing). payload (w .entries)) (walks.turn-end s at f.End found refl))
 
-end-of : (g : SubTlv) → asTlv g ≡ f.End → g ≡ sub.End
-end-of (sub.Item u b m) e = absurd (let z : _≡_ {A = ℕ} 0 1 = cc in omega arith)
-end-of sub.Cut e = absurd (let z : _≡_ {A = ℕ} 0 1 = cc in omega arith)
-end-of sub.End e = refl
-
--- a turn: what `item_at` found at a place of the list
-module _ (left : ℕ) (s : List ℕ) (at : ℕ) (r : Frame) (found : r ≡ itemAt left s at) where
-  at-first : eqb left 3 ≡ true → asEntry (frameAt s at) ≡ r
-  unfolding itemAt
-  at-first h = sym (found ∙ simp h)
-
-  at-below : eqb left 3 ≡ false → asTlv (subPlace s at (length s)) ≡ r
-  unfolding itemAt
-  at-below h = sym (found ∙ simp h)
-
-  module _ (t a n : ℕ) (e : r ≡ f.Entry t a n) where
-    as-entry : eqb left 3 ≡ true → frameAt s at ≡ f.Entry t a n
-    as-entry k = entry-of (frameAt s at) t a n (at-first k ∙ e)
-
-    as-tlv : eqb left 3 ≡ false → subPlace s at (length s) ≡ sub.Item t a n
-    as-tlv k = tlv-of (subPlace s at (length s)) t a n (at-below k ∙ e)
-
-    pub turn-inside : (at + 2 ≤ a) × (a + n ≤ length s)
-    turn-inside =
-        by-test (eqb left 3)
-        (λ k. walks.turn-inside s at (frameAt s at) refl t a n (as-entry k))
-        (λ k. subs.turn-inside s at (length s) (subPlace s at (length s)) (sub-agrees s at (length s)) t a n (as-tlv k))
-
-    abbrev value : List ℕ
-    value = take n (drop a s)
-
-    turn-list : listFrom left s at ≡ item t n (heldOf left t value) (listFrom left s (a + n))
-    unfolding listFrom heldOf payload pieces
-    turn-list =
-        by-test (eqb left 3)
-        (λ k.
-        let len = length-part s a n (turn-inside .1) in
-        simp k (ap payload (walks.turn-entries s at (frameAt s at) refl t a n (as-entry k)) ∙ rw len))
-        (λ k. by-test (eqb left 2)
-        (λ l. simp (k, l) (ap (tlvs secondHolds s) (subs.turn-item s at (length s) (subPlace s at (length s)) (sub-agrees s at (length s)) t a n (as-tlv k))))
-        (λ l. simp (k, l) (ap (tlvs thirdHolds s) (subs.turn-item s at (length s) (subPlace s at (length s)) (sub-agrees s at (length s)) t a n (as-tlv k)))))
-
-    pub turn-text : textFrom left s at ≡ itemText left t value ++ textFrom left s (a + n)
-    unfolding textFrom itemText lines
-    turn-text =
-        ap (lines (3 - left)) turn-list
-        ∙ ap (λ (k : ℕ). itemLine (3 - left) t k ++ lines (suc (3 - left)) (heldOf left t value) ++ textFrom left s (a + n)) (sym (length-part s a n (turn-inside .1)))
-
-  cut-list : r ≡ f.Cut → listFrom left s at ≡ cut
+  tlv-step : eqb k 3 ≡ false → (r : SubTlv) → r ≡ subPlace s at (length s) → listFrom k s at ≡ byItem k s (asTlv r)
   unfolding listFrom pieces
-  cut-list e =
-      by-test (eqb left 3)
-      (λ h. absurd (never-cut (frameAt s at) (at-first h ∙ e)))
-      (λ h.
-      let is = cut-of (subPlace s at (length s)) (at-below h ∙ e) in
-      by-test (eqb left 2)
-      (λ k. simp (h, k) (ap (tlvs secondHolds s) (subs.turn-cut s at (length s) (subPlace s at (length s)) (sub-agrees s at (length s)) is)))
-      (λ k. simp (h, k) (ap (tlvs thirdHolds s) (subs.turn-cut s at (length s) (subPlace s at (length s)) (sub-agrees s at (length s)) is))))
+  tlv-step h (sub.Item t a n) found = simp h (ap (tlvsIn (heldOf k) s) (subs.turn-item s at (length s) _ (sub-is s at (length s) _ found) t a n refl))
+  tlv-step h sub.Cut found = simp h (ap (tlvsIn (heldOf k) s) (subs.turn-cut s at (length s) _ (sub-is s at (length s) _ found) refl))
+  tlv-step h sub.End found = simp h (ap (tlvsIn (heldOf k) s) (subs.turn-end s at (length s) _ (sub-is s at (length s) _ found) refl))
 
-  pub cut-text : r ≡ f.Cut → textFrom left s at ≡ cutLine (3 - left)
-  unfolding textFrom lines
-  cut-text e = ap (lines (3 - left)) (cut-list e)
+  entry-inside : (r : Frame) → r ≡ frameAt s at → Inside s at (asEntry r)
+  entry-inside (f.Entry t a n) found = walks.turn-inside s at (f.Entry t a n) found t a n refl
+  entry-inside f.Cut found = tt
+  entry-inside f.End found = tt
 
-  end-list : r ≡ f.End → listFrom left s at ≡ none
-  unfolding listFrom payload pieces
-  end-list e =
-      by-test (eqb left 3)
-      (λ h. simp h (ap payload (no-entries s at (frameAt s at) refl (at-first h ∙ e))))
-      (λ h.
-      let is = end-of (subPlace s at (length s)) (at-below h ∙ e) in
-      by-test (eqb left 2)
-      (λ k. simp (h, k) (ap (tlvs secondHolds s) (subs.turn-end s at (length s) (subPlace s at (length s)) (sub-agrees s at (length s)) is)))
-      (λ k. simp (h, k) (ap (tlvs thirdHolds s) (subs.turn-end s at (length s) (subPlace s at (length s)) (sub-agrees s at (length s)) is))))
+  tlv-inside : (r : SubTlv) → r ≡ subPlace s at (length s) → Inside s at (asTlv r)
+  tlv-inside (sub.Item t a n) found = subs.turn-inside s at (length s) _ (sub-is s at (length s) _ found) t a n refl
+  tlv-inside sub.Cut found = tt
+  tlv-inside sub.End found = tt
 
-  pub end-text : r ≡ f.End → textFrom left s at ≡ []
-  unfolding textFrom lines
-  end-text e = ap (lines (3 - left)) (end-list e)
+  -- THE STEP, and that an item lies inside
+  list-step : listFrom k s at ≡ byItem k s (itemAt k s at)
+  unfolding itemAt
+  list-step = by-test (eqb k 3) (λ h. simp h (entry-step h (frameAt s at) refl)) (λ h. simp h (tlv-step h (subPlace s at (length s)) refl))
+
+  step-inside : Inside s at (itemAt k s at)
+  unfolding itemAt
+  step-inside = pick-all (Inside s at) (eqb k 3) _ _ (λ h. entry-inside (frameAt s at) refl) (λ h. tlv-inside (subPlace s at (length s)) refl)
+
+  module _ (r : Frame) (found : r ≡ itemAt k s at) where
+    text-by : (x : Frame) → r ≡ x → textFrom k s at ≡ lines (3 - k) (byItem k s x)
+    unfolding textFrom
+    text-by x e = ap (lines (3 - k)) (list-step ∙ ap (byItem k s) (sym found ∙ e))
+
+    module _ (t a n : ℕ) (e : r ≡ f.Entry t a n) where
+      pub turn-inside : (at + 2 ≤ a) × (a + n ≤ length s)
+      turn-inside = subst (Inside s at) (sym found ∙ e) step-inside
+
+      pub turn-text : textFrom k s at ≡ itemText k t (take n (drop a s)) ++ textFrom k s (a + n)
+      unfolding textFrom itemText lines
+      turn-text = text-by (f.Entry t a n) e ∙ rw (length-part s a n (turn-inside .1))
+
+    pub cut-text : r ≡ f.Cut → textFrom k s at ≡ cutLine (3 - k)
+    unfolding lines
+    cut-text e = text-by f.Cut e
+
+    pub end-text : r ≡ f.End → textFrom k s at ≡ []
+    unfolding lines
+    end-text e = text-by f.End e
 
 -- ---- an item's lines, by what it holds
 
-module _ (left ty : ℕ) (v : List ℕ) where
+module _ (k ty : ℕ) (v : List ℕ) where
   abbrev own : List ℕ
-  own = itemLine (3 - left) ty (length v)
+  own = itemLine (3 - k) ty (length v)
 
-  pub item-list : (a : ℕ) → 2 ≤ left → left ≤ 3 → listOf (left - 1) (drop a v) ≡ heldOf left ty v
-      → own ++ listText (left - 1) (take (length v - a) (drop a v)) ≡ itemText left ty v
+  pub item-list : (a : ℕ) → 2 ≤ k → k ≤ 3 → listOf (k - 1) (drop a v) ≡ heldOf k ty v
+      → own ++ listText (k - 1) (take (length v - a) (drop a v)) ≡ itemText k ty v
   unfolding listText itemText
-  item-list a i k e =
-      let l : 3 - (left - 1) ≡ suc (3 - left) = omega arith in
+  item-list a i j e =
+      let l : 3 - (k - 1) ≡ suc (3 - k) = omega arith in
       let all : take (length v - a) (drop a v) ≡ drop a v = take-all (length v - a) (drop a v) (rw length-drop (le-refl _)) in
       rw (all, l, e)
 
-  pub item-cut : cut ≡ heldOf left ty v → own ++ cutLine (3 - left + 1) ≡ itemText left ty v
+  pub item-cut : cut ≡ heldOf k ty v → own ++ cutLine (3 - k + 1) ≡ itemText k ty v
   unfolding itemText lines
   item-cut e =
-      let l : 3 - left + 1 ≡ suc (3 - left) = omega arith in
+      let l : 3 - k + 1 ≡ suc (3 - k) = omega arith in
       rw (l, ← e)
 
-  pub item-plain : none ≡ heldOf left ty v → own ≡ itemText left ty v
+  pub item-plain : none ≡ heldOf k ty v → own ≡ itemText k ty v
   unfolding itemText lines
   item-plain e = rw (← e) (sym (append-nil own))
 
@@ -270,6 +228,6 @@ module _ (s : List ℕ) where
   unfolding nested listText listOf
   nested-given n e = answers-given 0 (λ (es : List Entry). lines 0 (payload es)) s n e
 
-  pub nested-refused : (n p k : ℕ) → refused n p k ≡ count 0 s → refused n p k ≡ nested s
+  pub nested-refused : (n p i : ℕ) → refused n p i ≡ count 0 s → refused n p i ≡ nested s
   unfolding nested
-  nested-refused n p k e = answers-refused 0 (λ (es : List Entry). lines 0 (payload es)) s n p k e
+  nested-refused n p i e = answers-refused 0 (λ (es : List Entry). lines 0 (payload es)) s n p i e

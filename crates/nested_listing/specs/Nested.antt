@@ -8,26 +8,27 @@ use lib.Dec.{eqb}
 use Rattle.refusal.specs.Answer.{pick, Answer, onGiven}
 use Rattle.tlv.specs.Entries.{Entry}
 use Rattle.tlv.specs.Limits.{framed}
-use Rattle.network_framing.specs.Tlvs.{Opening, broken, opening, opened, Piece, Stop, clean, short, Walk}
+use Rattle.network_framing.specs.Tlvs.{Opening, broken, opening, opened, Piece, Stop, clean, short}
 use Rattle.network_framing.specs.Frame.{walkIn}
 use Rattle.nested_listing.specs.Tree.{Items, none, cut, item, lines}
 
--- the TLVs of Network Data that a walk found in v, by what an item of a type and a value holds; "An inner list that cannot be framed prints `cut` ... after
--- its good items". Their types are "without the stable bit"
+-- TLVs of Network Data that were found in v, by what an item of a type and a value holds; "An inner list that cannot be framed prints `cut` ... after its good
+-- items". Their types are "without the stable bit"
 unfoldable pub pieces : (holds : ℕ → List ℕ → Items) → (v : List ℕ) → Stop → List Piece → Items
 pieces holds v clean [] = none
 pieces holds v short [] = cut
 pieces holds v stop (e ∷ es) = item (e .ty) (e .len) (holds (e .ty) (take (e .len) (drop (e .start) v))) (pieces holds v stop es)
 
-abbrev pub tlvs : (holds : ℕ → List ℕ → Items) → (v : List ℕ) → Walk → Items
-tlvs holds v w = pieces holds v (w .stop) (w .items)
+-- all those of v
+abbrev pub tlvs : (holds : ℕ → List ℕ → Items) → (v : List ℕ) → Items
+tlvs holds v = pieces holds v (walkIn v 0 (length v) .stop) (walkIn v 0 (length v) .items)
 
 -- the third level: no item is opened, "the allowed nesting of three levels is used up"
 abbrev pub thirdHolds : ℕ → List ℕ → Items
 thirdHolds t v = none
 
 unfoldable pub inner : List ℕ → Items
-inner v = tlvs thirdHolds v (walkIn v 0 (length v))
+inner v = tlvs thirdHolds v
 
 -- the list that a prefix holds: "A prefix value under 2 bytes, or too short for its own prefix bytes, prints only `cut`"
 unfoldable pub afterOpening : Opening → Items
@@ -39,9 +40,9 @@ unfoldable pub secondHolds : ℕ → List ℕ → Items
 secondHolds t v = pick (eqb t 1) (afterOpening (opened v)) none
 
 unfoldable pub network : List ℕ → Items
-network v = tlvs secondHolds v (walkIn v 0 (length v))
+network v = tlvs secondHolds v
 
--- the first level: Network Data is type 7, whichever of a payload's entries it is
+-- the first level: Network Data is type 7, every entry of that type and not the last alone
 unfoldable pub firstHolds : ℕ → List ℕ → Items
 firstHolds t v = pick (eqb t 7) (network v) none
 

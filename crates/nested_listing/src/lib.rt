@@ -16,7 +16,7 @@ ghost use Rattle.nested_listing.specs.Nested.{nested};
 ghost use Rattle.nested_listing.specs.Report.{nestedHex, nestedReport, nestedReportBytes};
 ghost use Rattle.nested_listing.specs.Levels.{itemAt, heldOf, heldBy, Opens, listText, itemText};
 
-// Entries, TLVs of Network Data, inner TLVs of a prefix.
+// The allowed nesting: entries, TLVs of Network Data, inner TLVs of a prefix.
 const LEVELS: usize = 3;
 
 // What the program `nested` prints is never longer than this.
@@ -64,18 +64,18 @@ fn put_cut_line(level: usize, out: &mut [u8], at: usize) -> usize
     text_writing::put_text(b"cut\n", out, word)
 }
 
-// ---- What stands in a list, by how many levels are left.
+// ---- What stands in a list, by the nesting that is still allowed, its own level counted.
 
 // What stands at a place of a list.
-fn item_at(left: usize, s: &[u8], at: usize) -> Frame
-    ensures { λ r. ⌜ r ≡ itemAt left (now (s .entry)) at ⌝ }
+fn item_at(nesting: usize, s: &[u8], at: usize) -> Frame
+    ensures { λ r. ⌜ r ≡ itemAt nesting (now (s .entry)) at ⌝ }
 {
-    if left == LEVELS {
+    if nesting == LEVELS {
         let entry = tlv::frame_at(s, at);
         let Frame::Cut = entry else {
             return entry;
         };
-        return Frame::End; // which the payload's count refuses
+        return Frame::End; // an entry that is cut short: `count_entries` has refused it
     }
     match network_framing::sub_at(s, at) {
         SubTlv::Item { ty, start, len } => Frame::Entry {
@@ -89,16 +89,16 @@ fn item_at(left: usize, s: &[u8], at: usize) -> Frame
 }
 
 // The list that an item holds: Network Data is type 7, a prefix in it type 1.
-fn holds(left: usize, ty: u8, value: &[u8]) -> Held
-    ensures { λ r. ⌜ (heldBy left (now (value .entry)) r ≡ heldOf left ty (now (value .entry))) × Opens left (now (value .entry)) r ⌝ }
+fn holds(nesting: usize, ty: u8, value: &[u8]) -> Held
+    ensures { λ r. ⌜ (heldBy nesting (now (value .entry)) r ≡ heldOf nesting ty (now (value .entry))) × Opens nesting (now (value .entry)) r ⌝ }
 {
-    if left == LEVELS {
+    if nesting == LEVELS {
         if ty == 7 {
             return Held::List(0);
         }
         return Held::Nothing;
     }
-    if left == 2 {
+    if nesting == 2 {
         if ty == 1 {
             return match network_framing::head_at(value, 0, value.len()) {
                 Head::Inner(at) => Held::List(at),
@@ -112,21 +112,21 @@ fn holds(left: usize, ty: u8, value: &[u8]) -> Held
 // ---- The list printer and the item printer.
 
 // The lines of the list that stands in s into out from at on; the place after them.
-fn put_list(left: usize, s: &[u8], out: &mut [u8], at: usize) -> usize
-    requires { ⌜ (1 ≤ left) × (left ≤ 3) ⌝ }
-    ensures { λ r. ⌜ placing r (now (out .exit)) ≡ laid at (now (out .entry)) (listText left (now (s .entry))) ⌝ }
+fn put_list(nesting: usize, s: &[u8], out: &mut [u8], at: usize) -> usize
+    requires { ⌜ (1 ≤ nesting) × (nesting ≤ 3) ⌝ }
+    ensures { λ r. ⌜ placing r (now (out .exit)) ≡ laid at (now (out .entry)) (listText nesting (now (s .entry))) ⌝ }
 {
     let mut next = at;
     let mut pos: usize = 0;
     loop {
-        match item_at(left, s, pos) {
+        match item_at(nesting, s, pos) {
             Frame::Entry { ty, start, len } => {
                 let end = start + len;
-                next = put_item(left, ty, &s[start..end], out, next);
+                next = put_item(nesting, ty, &s[start..end], out, next);
                 pos = end;
             }
             Frame::Cut => {
-                return put_cut_line(LEVELS - left, out, next);
+                return put_cut_line(LEVELS - nesting, out, next);
             }
             Frame::End => {
                 return next;
@@ -136,14 +136,14 @@ fn put_list(left: usize, s: &[u8], out: &mut [u8], at: usize) -> usize
 }
 
 // The line of an item, and the lines of the list that it holds, into out from at on; the place after them.
-fn put_item(left: usize, ty: u8, value: &[u8], out: &mut [u8], at: usize) -> usize
-    requires { ⌜ (1 ≤ left) × (left ≤ 3) ⌝ }
-    ensures { λ r. ⌜ placing r (now (out .exit)) ≡ laid at (now (out .entry)) (itemText left ty (now (value .entry))) ⌝ }
+fn put_item(nesting: usize, ty: u8, value: &[u8], out: &mut [u8], at: usize) -> usize
+    requires { ⌜ (1 ≤ nesting) × (nesting ≤ 3) ⌝ }
+    ensures { λ r. ⌜ placing r (now (out .exit)) ≡ laid at (now (out .entry)) (itemText nesting ty (now (value .entry))) ⌝ }
 {
-    let next = put_item_line(LEVELS - left, ty, value.len(), out, at);
-    match holds(left, ty, value) {
-        Held::List(start) => put_list(left - 1, &value[start..], out, next),
-        Held::Cut => put_cut_line(LEVELS - left + 1, out, next),
+    let next = put_item_line(LEVELS - nesting, ty, value.len(), out, at);
+    match holds(nesting, ty, value) {
+        Held::List(start) => put_list(nesting - 1, &value[start..], out, next),
+        Held::Cut => put_cut_line(LEVELS - nesting + 1, out, next),
         Held::Nothing => next,
     }
 }

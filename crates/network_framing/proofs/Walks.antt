@@ -11,13 +11,13 @@ use Prim.Native.Nat.{ℕ, zero, suc, _+_, _-_, _≤_, _<_}
 use native.Mathlib.Omega.{arith}
 use native.Mathlib.Nat.{sub-zero}
 use lib.ListN.{length, getD, take, drop, length-drop}
-use lib.Seq.{drop-drop, length-take-le}
+use lib.Seq.{drop-drop, take-length, length-take-le}
 use lib.Dec.{leb, ltb}
 use borrow.Author.Tests.{ltb-false, leb-true, leb-false, le-leb, le-ltb, lt-leb, lt-ltb}
 use Rattle.laws.proofs.Tests.{by-test, pick-all}
 use Rattle.laws.proofs.Parts.{length-part}
-use Rattle.network_framing.specs.Tlvs.{First, none, cut, one, first, Walk, clean, short, done, onto, step, frames, piece}
-use Rattle.network_framing.specs.Frame.{part, subIn, walkIn, subAnswer}
+use Rattle.network_framing.specs.Tlvs.{First, none, cut, one, first, opened, Walk, clean, short, done, onto, step, frames, piece}
+use Rattle.network_framing.specs.Frame.{part, subIn, innerOf, headAt, walkIn, subAnswer}
 use Rattle.network_framing.specs.Place.{subPlace}
 use Rattle.network_framing.proofs.Agrees.{sub-tells, sub-agrees, size-is, byte-is, first-is}
 use Rattle.network_framing.proofs.SubTlv
@@ -158,6 +158,18 @@ module _ (s : List ℕ) (at end : ℕ) where
 pub walk-end : (s : List ℕ) (at end : ℕ) → end ≤ at → walkIn s at end ≡ done clean
 unfolding walkIn
 walk-end s at end h = simp (le-leb _ _ h)
+
+-- ---- of all of v
+
+pub walk-whole : (v : List ℕ) → walkIn v 0 (length v) ≡ frames (length v) 0 v
+unfolding walkIn frames
+walk-whole [] = refl
+walk-whole (b ∷ v) = simp (lt-leb (length (b ∷ v)) 0 (omega arith), le-ltb (length (b ∷ v)) (length (b ∷ v)) (omega arith), sub-zero, take-length)
+
+pub head-whole : (v : List ℕ) → headAt v 0 (length v) ≡ innerOf 0 (opened v)
+unfolding headAt innerOf opened
+head-whole [] = refl
+head-whole (b ∷ v) = simp (lt-leb (length (b ∷ v)) 0 (omega arith), le-ltb (length (b ∷ v)) (length (b ∷ v)) (omega arith), sub-zero) (ap (λ (l : List ℕ). innerOf 0 (opened l)) (take-length (b ∷ v)))
 
 -- what a turn of a loop over the TLVs learns of the walk from its place, by what `sub_in` found there
 module _ (s : List ℕ) (at end : ℕ) (r : SubTlv) (told : subAnswer r ≡ subIn s at end) where

@@ -51,7 +51,6 @@ length-below (suc k) n h =
     (λ e. omega (arith, length-one n (ltb-true _ _ e)))
     (λ e. omega (arith, length-more n (ltb-false _ _ e), length-below k (n / 10) (div-lt-iff-lt-mul (omega arith) .1 (rw pow-suc at h))))
 
--- and never more than one digit more than the number itself
 in-fuel : (k n : ℕ) → length (decimalIn k n) ≤ k
 unfolding decimalIn
 in-fuel zero n = omega arith
@@ -59,6 +58,7 @@ in-fuel (suc k) n =
     pick-all (λ (ds : List ℕ). length ds ≤ suc k) (ltb n 10) ((48 + n) ∷ []) (decimalIn k (n / 10) ++ ((48 + n % 10) ∷ []))
     (λ e. omega arith) (λ e. omega (arith, length-append (decimalIn k (n / 10)) ((48 + n % 10) ∷ []), in-fuel k (n / 10)))
 
+-- a number n has at most n + 1 digits
 pub length-few : (n : ℕ) → length (decimal n) ≤ suc n
 unfolding decimal
 length-few n = in-fuel (suc n) n

@@ -3,7 +3,7 @@
 -- Assumes nothing.
 use mathlib.Core.Path.{_≡_, refl, sym, ap, ap₂, _∙_}
 use mathlib.Core.List.{List, [], _∷_, _++_}
-use Prim.Native.Nat.{ℕ, suc, _+_, _^_, _≤_, _<_}
+use Prim.Native.Nat.{ℕ, suc, _+_, _≤_, _<_}
 use native.Mathlib.Omega.{arith}
 use native.Mathlib.Nat.{add-zero, zero-add}
 use native.Mathlib.Numerals.{add-one}
@@ -16,14 +16,14 @@ use Rattle.refusal.specs.Output.{output, emit, put, Placed, placing}
 use Rattle.laws.proofs.Tests.{by-test}
 use Rattle.laws.proofs.Puts.{put-byte}
 use Rattle.laws.proofs.Emits.{emit-no-room, emit-done}
-use Rattle.text_writing.specs.Laid.{lastPlace, after, laid}
+use Rattle.text_writing.specs.Laid.{lastPlace, placeAfter, laid}
 
-pub after-one : (at : ℕ) → at < lastPlace → at + 1 ≡ after at
-unfolding after
+pub after-one : (at : ℕ) → at < lastPlace → at + 1 ≡ placeAfter at
+unfolding placeAfter
 after-one at h = simp (lt-ltb at lastPlace h)
 
-pub after-last : (at : ℕ) → lastPlace ≤ at → at ≡ after at
-unfolding after
+pub after-last : (at : ℕ) → lastPlace ≤ at → at ≡ placeAfter at
+unfolding placeAfter
 after-last at h = simp (le-ltb at lastPlace h)
 
 -- ---- one text after another
@@ -32,19 +32,19 @@ pub laid-none : (at : ℕ) (out : List ℕ) → placing at out ≡ laid at out [
 unfolding laid
 laid-none at out = refl
 
-pub laid-byte : (at next : ℕ) (out left : List ℕ) (b : ℕ) → next ≡ after at → left ≡ set out at b → placing next left ≡ laid at out (b ∷ [])
+pub laid-byte : (at next : ℕ) (out left : List ℕ) (b : ℕ) → next ≡ placeAfter at → left ≡ set out at b → placing next left ≡ laid at out (b ∷ [])
 unfolding laid
 laid-byte at next out left b n l = ap₂ placing n l
 
 laid-more : (xs ys : List ℕ) (at : ℕ) (out : List ℕ) → laid (laid at out xs .next) (laid at out xs .left) ys ≡ laid at out (xs ++ ys)
 unfolding laid
 laid-more [] ys at out = refl
-laid-more (x ∷ xs) ys at out = laid-more xs ys (after at) (set out at x)
+laid-more (x ∷ xs) ys at out = laid-more xs ys (placeAfter at) (set out at x)
 
 length-laid : (text : List ℕ) (at : ℕ) (out : List ℕ) → length (laid at out text .left) ≡ length out
 unfolding laid
 length-laid [] at out = refl
-length-laid (b ∷ bs) at out = length-laid bs (after at) (set out at b) ∙ length-set out at b
+length-laid (b ∷ bs) at out = length-laid bs (placeAfter at) (set out at b) ∙ length-set out at b
 
 module _ (out left : List ℕ) (at next : ℕ) (text : List ℕ) (told : placing next left ≡ laid at out text) where
   -- and what is laid after it
@@ -72,8 +72,8 @@ unfolding laid
 at-most [] at out = omega arith
 at-most (b ∷ bs) at out =
     by-test (ltb at lastPlace)
-    (λ e. omega (arith, after-one at (ltb-true _ _ e), at-most bs (after at) (set out at b)))
-    (λ e. omega (arith, after-last at (ltb-false _ _ e), at-most bs (after at) (set out at b)))
+    (λ e. omega (arith, after-one at (ltb-true _ _ e), at-most bs (placeAfter at) (set out at b)))
+    (λ e. omega (arith, after-last at (ltb-false _ _ e), at-most bs (placeAfter at) (set out at b)))
 
 -- all of it, where the count does not stop
 pub laid-fits : (text : List ℕ) (at : ℕ) (out : List ℕ) → at + length text ≤ lastPlace → laid at out text ≡ placing (at + length text) (put out at text)
@@ -87,7 +87,7 @@ laid-fits (b ∷ bs) at out h =
 stopped : (text : List ℕ) (at : ℕ) (out : List ℕ) → at ≡ lastPlace → laid at out text .next ≡ lastPlace
 unfolding laid
 stopped [] at out h = h
-stopped (b ∷ bs) at out h = stopped bs (after at) (set out at b) (sym (after-last at (omega arith)) ∙ h)
+stopped (b ∷ bs) at out h = stopped bs (placeAfter at) (set out at b) (sym (after-last at (omega arith)) ∙ h)
 
 counts : (text : List ℕ) (at : ℕ) (out : List ℕ) → at ≤ lastPlace → laid at out text .next < lastPlace → at + length text ≤ lastPlace
 unfolding laid
@@ -95,7 +95,7 @@ counts [] at out h k = omega arith
 counts (b ∷ bs) at out h k =
     by-test (ltb at lastPlace)
     (λ e. let next = after-one at (ltb-true _ _ e) in
-    omega (arith, counts bs (after at) (set out at b) (omega (arith, ltb-true)) k))
+    omega (arith, counts bs (placeAfter at) (set out at b) (omega (arith, ltb-true)) k))
     (λ e. absurd (omega (arith, ltb-false, stopped (b ∷ bs) at out (omega (arith, ltb-false)))))
 
 -- ---- a caller that lays its text twice: the size that it takes in no room, then the text

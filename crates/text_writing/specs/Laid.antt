@@ -12,11 +12,11 @@ abbrev pub lastPlace : ℕ
 lastPlace = 2 ^ 64 - 1
 
 -- the place after
-unfoldable pub after : ℕ → ℕ
-after at = pick (ltb at lastPlace) (at + 1) at
+unfoldable pub placeAfter : ℕ → ℕ
+placeAfter at = pick (ltb at lastPlace) (at + 1) at
 
--- out, with each byte of the text from the place at on that has a place in it, and the place after the text (`laid-fits`, proofs/Lays.antt: at + its
--- length, and out with all of the text where there is room for it)
+-- out, with each byte of the text from the place at on that has a place in it, and the place after the text (`laid-fits`, proofs/Lays.antt: where the count
+-- does not stop, that is at + the length, and the text is `put`)
 unfoldable pub laid : (at : ℕ) → (out text : List ℕ) → Placed
 laid at out [] = placing at out
-laid at out (b ∷ bs) = laid (after at) (set out at b) bs
+laid at out (b ∷ bs) = laid (placeAfter at) (set out at b) bs

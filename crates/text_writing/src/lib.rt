@@ -1,4 +1,5 @@
-// Text into a lent output as far as there is room, counting on past its end: into no room a writer tells the size of its text.
+// Text into a lent output as far as there is room, counting on past its end: into no room a writer tells the size of its text. A caller that must write all
+// or nothing asks for the size first.
 ghost use mathlib.Core.Path.{_≡_};
 ghost use mathlib.Core.List.{[], _∷_};
 ghost use Rattle.refusal.specs.Output.{placing};
@@ -22,7 +23,7 @@ pub fn put_byte(b: u8, out: &mut [u8], at: usize) -> usize
     at
 }
 
-// A text into out from at on; the place after it.
+// A text into out from at on, as far as there is room; the place after it.
 pub fn put_text(text: &[u8], out: &mut [u8], at: usize) -> usize
     ensures { λ r. ⌜ placing r (now (out .exit)) ≡ laid at (now (out .entry)) (now (text .entry)) ⌝ }
 {
@@ -35,7 +36,7 @@ pub fn put_text(text: &[u8], out: &mut [u8], at: usize) -> usize
     next
 }
 
-// A number in decimal into out from at on; the place after it.
+// A number in decimal into out from at on, as far as there is room; the place after it.
 pub fn put_decimal(n: usize, out: &mut [u8], at: usize) -> usize
     ensures { λ r. ⌜ placing r (now (out .exit)) ≡ laid at (now (out .entry)) (decimal n) ⌝ }
 {

@@ -1,8 +1,8 @@
 -- Worked lines of the nested listing, computed from the definitions; and that six bytes of text for a byte of the payload are not enough.
 -- Assumes nothing.
 use mathlib.Core.Path.{_≡_, refl}
-use mathlib.Core.List.{List, [], _∷_}
-use Prim.Native.Nat.{ℕ, _*_, _<_}
+use mathlib.Core.List.{List, [], _∷_, _++_}
+use Prim.Native.Nat.{ℕ, _+_, _*_, _<_}
 use native.Mathlib.Omega.{arith}
 use lib.ListN.{length}
 use Rattle.refusal.specs.Answer.{Answer, given, refused}
@@ -17,6 +17,32 @@ use Rattle.listing.specs.Listing.{pairLine}
 use Rattle.nested_listing.specs.Tree.{indent, itemLine, cutLine, lines}
 use Rattle.nested_listing.specs.Nested.{pieces, inner, afterOpening, secondHolds, network as networkTlvs, firstHolds, payload, nested}
 
+-- lines of each level, of a type and a length of one digit; and where a list is cut
+abbrev pub first-level : (ty len : ℕ) → List ℕ
+first-level t n = (48 + t) ∷ 32 ∷ (48 + n) ∷ 10 ∷ []
+
+abbrev pub second-level : (ty len : ℕ) → List ℕ
+second-level t n = 32 ∷ 32 ∷ (48 + t) ∷ 32 ∷ (48 + n) ∷ 10 ∷ []
+
+abbrev pub third-level : (ty len : ℕ) → List ℕ
+third-level t n = 32 ∷ 32 ∷ 32 ∷ 32 ∷ (48 + t) ∷ 32 ∷ (48 + n) ∷ 10 ∷ []
+
+abbrev pub second-cut : List ℕ
+second-cut = 32 ∷ 32 ∷ 99 ∷ 117 ∷ 116 ∷ 10 ∷ []
+
+abbrev pub third-cut : List ℕ
+third-cut = 32 ∷ 32 ∷ 32 ∷ 32 ∷ 99 ∷ 117 ∷ 116 ∷ 10 ∷ []
+
+-- Network Data of five prefixes without bytes, and its listing
+abbrev pub dense : List ℕ
+dense = 0x07 ∷ 0x0a ∷ 0x02 ∷ 0x00 ∷ 0x02 ∷ 0x00 ∷ 0x02 ∷ 0x00 ∷ 0x02 ∷ 0x00 ∷ 0x02 ∷ 0x00 ∷ []
+
+abbrev two-lines : List ℕ
+two-lines = second-level 1 0 ++ third-cut
+
+abbrev pub denseText : List ℕ
+denseText = (55 ∷ 32 ∷ 49 ∷ 48 ∷ 10 ∷ []) ++ two-lines ++ two-lines ++ two-lines ++ two-lines ++ two-lines
+
 -- a payload, and its listing
 abbrev pub Line : Type 0
 Line = List ℕ × Answer (List ℕ)
@@ -26,39 +52,36 @@ examples =
     -- no entry; an entry that is cut short
     ([], given [])
     ∷ (0x03 ∷ [], refused 2 0 0)
-    -- "7 1", "  cut"
-    ∷ (0x07 ∷ 0x01 ∷ 0x03 ∷ [], given (55 ∷ 32 ∷ 49 ∷ 10 ∷ 32 ∷ 32 ∷ 99 ∷ 117 ∷ 116 ∷ 10 ∷ []))
-    -- "7 2", "  1 0", "    cut"
-    ∷ (
-      0x07 ∷ 0x02 ∷ 0x02 ∷ 0x00 ∷ [],
-      given (55 ∷ 32 ∷ 50 ∷ 10 ∷ 32 ∷ 32 ∷ 49 ∷ 32 ∷ 48 ∷ 10 ∷ 32 ∷ 32 ∷ 32 ∷ 32 ∷ 99 ∷ 117 ∷ 116 ∷ 10 ∷ []),
-    )
-    -- "7 4", "  1 0", "    cut", "  0 0": the listing goes on after a prefix that is too short
+    -- Network Data that is no list; a prefix that is too short
+    ∷ (0x07 ∷ 0x01 ∷ 0x03 ∷ [], given (first-level 7 1 ++ second-cut))
+    ∷ (0x07 ∷ 0x02 ∷ 0x02 ∷ 0x00 ∷ [], given (first-level 7 2 ++ second-level 1 0 ++ third-cut))
+    -- the list goes on after one
     ∷ (
       0x07 ∷ 0x04 ∷ 0x02 ∷ 0x00 ∷ 0x00 ∷ 0x00 ∷ [],
-      given (55 ∷ 32 ∷ 52 ∷ 10 ∷ 32 ∷ 32 ∷ 49 ∷ 32 ∷ 48 ∷ 10 ∷ 32 ∷ 32 ∷ 32 ∷ 32 ∷ 99 ∷ 117 ∷ 116 ∷ 10 ∷ 32 ∷ 32 ∷ 48 ∷ 32 ∷ 48 ∷ 10 ∷ []),
+      given (first-level 7 4 ++ second-level 1 0 ++ third-cut ++ second-level 0 0),
     )
-    -- "7 7", "  1 5", "    1 1": an inner TLV of type 1 is not opened, and the stable bit is no part of the type
+    -- a prefix in a prefix is not opened, and the stable bit is no part of its type
     ∷ (
       0x07 ∷ 0x07 ∷ 0x02 ∷ 0x05 ∷ 0x00 ∷ 0x00 ∷ 0x03 ∷ 0x01 ∷ 0x00 ∷ [],
-      given (55 ∷ 32 ∷ 55 ∷ 10 ∷ 32 ∷ 32 ∷ 49 ∷ 32 ∷ 53 ∷ 10 ∷ 32 ∷ 32 ∷ 32 ∷ 32 ∷ 49 ∷ 32 ∷ 49 ∷ 10 ∷ []),
+      given (first-level 7 7 ++ second-level 1 5 ++ third-level 1 1),
     )
-    -- "7 5", "  1 3", "    cut", "7 1", "  cut", "3 0": an inner list, then a list of Network Data, is cut, and the listing goes on; every type 7 is opened
+    -- lists that are cut after a good item
     ∷ (
-      0x07 ∷ 0x05 ∷ 0x03 ∷ 0x03 ∷ 0x00 ∷ 0x00 ∷ 0x05 ∷ 0x07 ∷ 0x01 ∷ 0x02 ∷ 0x03 ∷ 0x00 ∷ [],
-      given
-          (55 ∷ 32 ∷ 53 ∷ 10 ∷ 32 ∷ 32 ∷ 49 ∷ 32 ∷ 51 ∷ 10 ∷ 32 ∷ 32 ∷ 32 ∷ 32 ∷ 99 ∷ 117 ∷ 116 ∷ 10 ∷ 55 ∷ 32 ∷ 49 ∷ 10 ∷ 32 ∷ 32 ∷ 99 ∷ 117 ∷ 116 ∷ 10 ∷ 51 ∷ 32 ∷ 48 ∷ 10 ∷ []),
+      0x07 ∷ 0x09 ∷ 0x02 ∷ 0x06 ∷ 0x00 ∷ 0x00 ∷ 0x05 ∷ 0x01 ∷ 0xaa ∷ 0x03 ∷ 0x04 ∷ [],
+      given (first-level 7 9 ++ second-level 1 6 ++ third-level 2 1 ++ third-cut ++ second-cut),
     )
+    -- every entry of type 7 is opened, and the payload goes on after those that are cut
+    ∷ (
+      0x07 ∷ 0x02 ∷ 0x03 ∷ 0x00 ∷ 0x07 ∷ 0x01 ∷ 0x02 ∷ 0x03 ∷ 0x00 ∷ [],
+      given (first-level 7 2 ++ second-level 1 0 ++ third-cut ++ first-level 7 1 ++ second-cut ++ first-level 3 0),
+    )
+    ∷ (dense, given denseText)
     ∷ []
 
 pub worked : Every (λ (l : Line). nested (l .0) ≡ l .1) examples
-unfolding nested payload firstHolds networkTlvs secondHolds afterOpening inner pieces lines cutLine itemLine indent pairLine decimal decimalIn walkIn network.frames network.step network.first opened framed limited framing frames step first long valued
-worked = (refl, (refl, (refl, (refl, (refl, (refl, (refl, tt)))))))
+unfolding nested payload firstHolds networkTlvs secondHolds afterOpening inner pieces lines cutLine itemLine indent pairLine decimal decimalIn
+    walkIn network.frames network.step network.first opened framed limited framing frames step first long valued
+worked = (refl, (refl, (refl, (refl, (refl, (refl, (refl, (refl, (refl, tt)))))))))
 
--- Network Data of five prefixes with no bytes
-abbrev pub dense : List ℕ
-dense = 0x07 ∷ 0x0a ∷ 0x02 ∷ 0x00 ∷ 0x02 ∷ 0x00 ∷ 0x02 ∷ 0x00 ∷ 0x02 ∷ 0x00 ∷ 0x02 ∷ 0x00 ∷ []
-
-pub six-too-few : 6 * length dense < length (lines 0 (payload (framing dense .entries)))
-unfolding payload firstHolds networkTlvs secondHolds afterOpening inner pieces lines cutLine itemLine indent pairLine decimal decimalIn walkIn network.frames network.step network.first opened framing frames step first long valued
+pub six-too-few : 6 * length dense < length denseText
 six-too-few = omega arith

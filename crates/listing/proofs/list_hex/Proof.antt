@@ -4,7 +4,7 @@ use native.Mathlib.Omega.{arith}
 use borrow.Author.Needs.{needs}
 use Rattle.laws.proofs.Emits.{emit-refused}
 use Rattle.laws.proofs.Callers.{gave-inside}
-use Rattle.listing.specs.Listing.{listed, listedHex}
+use Rattle.listing.specs.Listing.{listed}
 use Rattle.listing.proofs.Hexes.{hex-given, hex-refused}
 use Rattle.listing.proofs.list_hex.Statement.{statement}
 use Rattle.listing.proofs.list_hex.Tie as tie
@@ -37,7 +37,6 @@ list-requires : tie.Need-list-requires
 list-requires c κs = search needs
 
 returns : tie.Need-returns
-unfolding listedHex
 returns c =
     let t = c .before in
     let d = t .before .before .before in
@@ -47,7 +46,6 @@ same-length : tie.Need-same-length
 same-length c = c .before .before .list .kept .1 .0
 
 returns-2 : tie.Need-returns-2
-unfolding listedHex
 returns-2 c =
     let l = c .before .before in
     let t = l .before .before .before .before .before in

@@ -1,6 +1,6 @@
 -- `listing::put_lines` meets its contract. The invariant: the lines from pos on, laid from next on, make of out what all the lines make of it.
 -- Assumes nothing.
-use mathlib.Core.Path.{_≡_, refl, sym, ap, _∙_}
+use mathlib.Core.Path.{_≡_, refl, ap, _∙_}
 use Prim.Native.Nat.{_-_, _≤_}
 use native.Mathlib.Omega.{arith}
 use lib.ListN.{length}

@@ -3,7 +3,7 @@
 use mathlib.Core.Path.{_∙_}
 use borrow.Author.Needs.{needs}
 use Rattle.text_writing.proofs.Lays.{laid-rest}
-use Rattle.listing.specs.Listing.{listing}
+use Rattle.listing.specs.Listing.{firstLine, listing}
 use Rattle.listing.proofs.put_listing.Statement.{statement}
 use Rattle.listing.proofs.put_listing.Tie as tie
 
@@ -26,7 +26,7 @@ same-length : tie.Need-same-length
 same-length c = search needs
 
 returns : tie.Need-returns
-unfolding listing
+unfolding listing firstLine
 returns c =
     let p = c .before .before in
     let b = p .before .before .before .before in

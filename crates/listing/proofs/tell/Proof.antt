@@ -7,11 +7,11 @@ use borrow.Author.Needs.{needs}
 use Rattle.listing.proofs.tell.Statement.{statement}
 use Rattle.listing.proofs.tell.Tie as tie
 
-slice-aggregate-put-told : tie.Need-slice-aggregate-put-told
-slice-aggregate-put-told c = search needs
+slice-aggregate-put-refused : tie.Need-slice-aggregate-put-refused
+slice-aggregate-put-refused c = search needs
 
-put-told-requires : tie.Need-put-told-requires
-put-told-requires c κs = search needs
+put-refused-requires : tie.Need-put-refused-requires
+put-refused-requires c κs = search needs
 
 refuse-requires : tie.Need-refuse-requires
 refuse-requires c κs = search needs
@@ -19,10 +19,10 @@ refuse-requires c κs = search needs
 returns : tie.Need-returns
 returns c =
     let n = c .before .before .before in
-    rw (c .refuse .ensures) (lays-no-room _ _ _ refl _ _ _ (n .put-told .ensures) (c .before .if1 .taken))
+    rw (c .refuse .ensures) (lays-no-room _ _ _ refl _ _ _ (n .put-refused .ensures) (c .before .if1 .taken))
 
-put-told-requires-2 : tie.Need-put-told-requires-2
-put-told-requires-2 c κs = search needs
+put-refused-requires-2 : tie.Need-put-refused-requires-2
+put-refused-requires-2 c κs = search needs
 
 same-length : tie.Need-same-length
 same-length c = search needs
@@ -32,16 +32,16 @@ returns-2 c =
     let w = c .before .before in
     let i = w .before .before in
     let n = i .before .before in
-    lays-done _ _ _ refl _ _ _ (n .put-told .ensures) (omega (arith, n .before .before .before .good .1 .1 .0)) (i .if1 .left) _ _ (w .put-told2 .ensures)
+    lays-done _ _ _ refl _ _ _ (n .put-refused .ensures) (omega (arith, n .before .before .before .good .1 .1 .0)) (i .if1 .left) _ _ (w .put-refused2 .ensures)
 
 pub tell-spec : {M : Type 1} → statement M
 tell-spec =
     tie.close
     (tie.spec
-    slice-aggregate-put-told
-    put-told-requires
+    slice-aggregate-put-refused
+    put-refused-requires
     refuse-requires
     returns
-    put-told-requires-2
+    put-refused-requires-2
     same-length
     returns-2)

@@ -1,5 +1,5 @@
--- The list printer and the item printer meet their contracts. A list with `left` levels to go prints its items with as many, and an item prints the list
--- that it holds with one fewer, so that twice the levels, less one for an item, fall with each call.
+-- The list printer and the item printer meet their contracts. A list prints its items by the nesting that is allowed to it, and an item prints the list
+-- that it holds by one less, so that twice the nesting, less one for an item, falls with each call.
 -- Assumes nothing.
 use mathlib.Core.Path.{_≡_, refl, sym, ap, _∙_, subst}
 use Prim.Native.Nat.{ℕ, _+_, _-_, _*_, _≤_, _<_}
@@ -87,8 +87,8 @@ module _ (t : ℕ) (s : put-item-lts.After-start (put-item-calls t) (put-item-at
   abbrev place : ℕ
   place = s .start .given .0 .0
 
-  opens : (2 ≤ entered .args .left) × (place ≤ length bytes)
-  opens = subst (Opens (entered .args .left) bytes) (s .start .given .1) (asked .holds .ensures .1)
+  opens : (2 ≤ entered .args .nesting) × (place ≤ length bytes)
+  opens = subst (Opens (entered .args .nesting) bytes) (s .start .given .1) (asked .holds .ensures .1)
 
 put-item-sub-put-item-line : (t : ℕ) → put-item-lts.Need-sub-put-item-line (put-item-calls t) (put-item-at t) put-item.Post
 put-item-sub-put-item-line t c = search needs
@@ -133,7 +133,7 @@ put-item-put-cut-line-requires t c κs =
     let e = c .before in
     let h = e .before .before in
     let st = h .before .before .before .before .before .before .before in
-    omega (arith, subst (Opens (st .args .left) (st .args .value .now)) (e .enum-told .given .1) (h .holds .ensures .1))
+    omega (arith, subst (Opens (st .args .nesting) (st .args .value .now)) (e .enum-told .given .1) (h .holds .ensures .1))
 
 put-item-enum-told-2 : (t : ℕ) → put-item-lts.Need-enum-told-2 (put-item-calls t) (put-item-at t) put-item.Post
 put-item-enum-told-2 t c = search needs
@@ -180,11 +180,11 @@ put-item-returns-3 t c =
     l .put-item-line .ensures ∙ ap (laid _ _) (item-plain _ _ _ held)
 
 abbrev put-list-Inv-loop : put-list-lts.InvT-loop
-put-list-Inv-loop left s out₀ at next₀ pos₀ out next pos =
-    (pos ≤ length s) × (length out ≡ length out₀) × (laid next out (textFrom left s pos) ≡ laid at out₀ (listText left s))
+put-list-Inv-loop k s out₀ at next₀ pos₀ out next pos =
+    (pos ≤ length s) × (length out ≡ length out₀) × (laid next out (textFrom k s pos) ≡ laid at out₀ (listText k s))
 
 abbrev put-list-μ-loop : put-list-lts.MeasureT-loop
-put-list-μ-loop left s out₀ at next₀ pos₀ out next pos = length s - pos
+put-list-μ-loop k s out₀ at next₀ pos₀ out next pos = length s - pos
 
 -- ---- what is known where the list has an item
 module _ (t : ℕ) (y : put-list-lts.After-ty (put-list-calls t) (put-list-at t) put-list.Post put-list-Inv-loop put-list-μ-loop) where

@@ -3,7 +3,7 @@
 use mathlib.Core.Path.{sym, ap, _∙_}
 use native.Mathlib.Omega.{arith}
 use Rattle.network_framing.specs.Frame.{headAnswer}
-use Rattle.nested_listing.proofs.Turns.{held-network, held-other, held-prefix, held-tlv, held-last, third-list, head-inner, head-short}
+use Rattle.nested_listing.proofs.Turns.{held-network, held-other, held-prefix, held-tlv, held-last, third-list, prefix-list, prefix-none}
 use borrow.Author.Needs.{needs}
 use Rattle.nested_listing.proofs.holds.Statement.{statement}
 use Rattle.nested_listing.proofs.holds.Tie as tie
@@ -28,13 +28,13 @@ returns-3 c =
     let a = c .before in
     let h = a .before .before in
     let two = h .before .before .if3 .taken in
-    let at = head-inner _ _ (sym (ap headAnswer (a .at .given .1)) ∙ h .head-at .ensures) in
+    let at = prefix-list _ _ (sym (ap headAnswer (a .at .given .1)) ∙ h .head-at .ensures) in
     (third-list _ _ two ∙ at .1 ∙ held-prefix _ _ _ two (h .before .if4 .taken), (omega arith, at .0))
 
 returns-4 : tie.Need-returns-4
 returns-4 c =
     let h = c .before .before in
-    let short = head-short _ _ _ _ (sym (ap headAnswer (c .enum-told .given .1)) ∙ h .head-at .ensures) in
+    let short = prefix-none _ _ _ _ (sym (ap headAnswer (c .enum-told .given .1)) ∙ h .head-at .ensures) in
     (short ∙ held-prefix _ _ _ (h .before .before .if3 .taken) (h .before .if4 .taken), omega arith)
 
 returns-5 : tie.Need-returns-5

@@ -5,7 +5,6 @@ use borrow.Author.Needs.{needs}
 use Rattle.laws.proofs.Emits.{emit-refused}
 use Rattle.laws.proofs.Callers.{gave-inside}
 use Rattle.nested_listing.specs.Nested.{nested}
-use Rattle.nested_listing.specs.Report.{nestedHex}
 use Rattle.listing.proofs.Hexes.{hex-given, hex-refused}
 use Rattle.nested_listing.proofs.list_nested_hex.Statement.{statement}
 use Rattle.nested_listing.proofs.list_nested_hex.Tie as tie
@@ -38,7 +37,6 @@ list-nested-requires : tie.Need-list-nested-requires
 list-nested-requires c κs = search needs
 
 returns : tie.Need-returns
-unfolding nestedHex
 returns c =
     let t = c .before in
     let d = t .before .before .before in
@@ -48,7 +46,6 @@ same-length : tie.Need-same-length
 same-length c = c .before .before .list-nested .kept .1 .0
 
 returns-2 : tie.Need-returns-2
-unfolding nestedHex
 returns-2 c =
     let l = c .before .before in
     let t = l .before .before .before .before .before in

@@ -2,7 +2,7 @@
 -- Assumes nothing.
 use mathlib.Core.Path.{ap, _∙_}
 use Rattle.text_writing.specs.Laid.{laid}
-use Rattle.nested_listing.proofs.Texts.{blanks}
+use Rattle.nested_listing.proofs.Turns.{blanks}
 use borrow.Author.Needs.{needs}
 use Rattle.nested_listing.proofs.put_indent.Statement.{statement}
 use Rattle.nested_listing.proofs.put_indent.Tie as tie

@@ -1,4 +1,4 @@
--- The entries of bytes: each type is below 256, and places and lengths lie within the input.
+-- The entries of bytes: types and values are bytes, a length is one of two bytes, and places and lengths lie within the input.
 -- Assumes nothing.
 use mathlib.Core.Path.{_≡_}
 use mathlib.Core.List.{List, [], _∷_}
@@ -11,11 +11,11 @@ use borrow.Author.Tests.{leb-true}
 use Rattle.laws.proofs.Tests.{pick-all}
 use Rattle.laws.proofs.Parts.{every-take, every-drop}
 use Rattle.refusal.specs.Every.{Every, Bytes}
 use Rattle.tlv.specs.Entries.{First, none, cut, one, valued, long, first, Entry, entry, Stop, clean, cutAt, Framing, step, frames, framing}
 
 -- an entry of bytes that lie before a place
 abbrev pub Fits : ℕ → Entry → Type 0
-Fits end e = (e .ty < 256) × (e .place ≤ end) × (length (e .value) ≤ end)
+Fits end e = (e .ty < 256) × (e .place ≤ end) × (length (e .value) ≤ end) × (length (e .value) < 65536) × Bytes (e .value)
 
 abbrev pub Stops : ℕ → Stop → Type 0
 Stops end clean = Unit {0}
@@ -61,7 +61,7 @@ step-fits fuel at end s none f e go = (tt, tt)
 step-fits fuel at end s cut f e go = (tt, omega arith)
 step-fits fuel at end s (one t h v r) f e go =
     let rest = go (at + h + length v) r (f .1) (omega arith) in
-    (((f .0, omega arith, omega arith), rest .0), rest .1)
+    (((f .0, omega arith, omega arith, f .5, f .4), rest .0), rest .1)
 
 frames-fit : (fuel at end : ℕ) (s : List ℕ) → Bytes s → at + length s ≤ end → FramingFits end (frames fuel at s)
 unfolding frames
