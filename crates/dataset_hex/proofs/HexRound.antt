@@ -29,18 +29,18 @@ use Rattle.dataset_edits.proofs.ReadBack.{rewritten-fits, was-kept}
 
 -- ---- what is written of entries of bytes is bytes
 
-header-small : (t n : ℕ) → t < 256 → n < 65536 → Bytes (header t n)
+header-bytes : (t n : ℕ) → t < 256 → n < 65536 → Bytes (header t n)
 unfolding header
-header-small t n h k =
+header-bytes t n h k =
     pick-all Bytes (leb n mostShort) (t ∷ n ∷ []) (t ∷ 255 ∷ (n / 256) ∷ (n % 256) ∷ [])
     (λ e. (h, (omega (arith, leb-true), tt))) (λ e. (h, (omega arith, (omega arith, (omega arith, tt)))))
 
-all-small : (c : Choice) (end : ℕ) (es : List Entry) → Every (Fits end) es → Bytes (encodeAll (kept c (contents es)))
+all-bytes : (c : Choice) (end : ℕ) (es : List Entry) → Every (Fits end) es → Bytes (encodeAll (kept c (contents es)))
 unfolding encodeAll encode kept contents
-all-small c end [] h = tt
-all-small c end (e ∷ es) h =
-    let rest = all-small c end es (h .1) in
-    let entry = every-append _ (header (e .ty) (length (e .value))) (e .value) (header-small _ _ (h .0 .0) (h .0 .3)) (h .0 .4) in
+all-bytes c end [] h = tt
+all-bytes c end (e ∷ es) h =
+    let rest = all-bytes c end es (h .1) in
+    let entry = every-append _ (header (e .ty) (length (e .value))) (e .value) (header-bytes _ _ (h .0 .0) (h .0 .3)) (h .0 .4) in
     by-test (keepsOf c (e .ty))
     (λ t. rw t (every-append _ (encode (e .ty) (e .value)) (encodeAll (kept c (contents es))) entry rest)) (λ t. rw t rest)
 
@@ -48,8 +48,8 @@ pub written-bytes : (c : Choice) (s bs : List ℕ) → Bytes s → rewritten c s
 unfolding rewritten
 written-bytes c s bs b e =
     let es = gives (λ (es : List Entry). encodeAll (kept c (contents es))) (framed 0 s) bs e in
-    let small = rw (es .is) at (framed-holds 0 (Every (Fits (length s))) s (framing-fits s (length s) b (le-refl _) .0)) in
-    rw (← es .so) (all-small c (length s) (es .one) small)
+    let fit = rw (es .is) at (framed-holds 0 (Every (Fits (length s))) s (framing-fits s (length s) b (le-refl _) .0)) in
+    rw (← es .so) (all-bytes c (length s) (es .one) fit)
 
 -- ---- the round trip
 

@@ -1,4 +1,4 @@
--- The flat listing of a dataset or payload, and what the listing program prints. Document 01: "prints `entries` and their count, then a line
+-- The flat listing of a dataset or payload, and what a listing program prints. Document 01: "prints `entries` and their count, then a line
 -- for each with type and length, in decimal, one space between; a refusal is one line `refused`, number, place".
 -- Assumes nothing.
 use Prim.Native.Nat.{ℕ, _+_, _-_, _*_}
@@ -7,6 +7,7 @@ use lib.ListN.{length, take, getD}
 use lib.Dec.{eqb}
 use Rattle.refusal.specs.Sizes.{mostEntries, mostDigits}
 use Rattle.refusal.specs.Answer.{pick, Answer, given, absent, refused, thenDo, onGiven}
+use Rattle.refusal.specs.Output.{Output, output, emit}
 use Rattle.tlv.specs.Entries.{Entry}
 use Rattle.tlv.specs.Limits.{framed}
 use Rattle.base16.specs.Base16.{decoded}
@@ -49,7 +50,14 @@ lineOf x = pick (eqb (getD x (length x - 1) 0) 10) (take (length x - 1) x) x
 unfoldable pub refusedLine : (number place : ℕ) → List ℕ
 refusedLine n p = (114 ∷ 101 ∷ 102 ∷ 117 ∷ 115 ∷ 101 ∷ 100 ∷ 32 ∷ []) ++ pairLine n p
 
--- the text itself, or that line
+-- what a program leaves of a listing's answer and the output with it: what was given stands, and so does 11, which is about the listing; of any other refusal
+-- the line is written
+unfoldable pub telling : Answer ℕ → List ℕ → Output
+telling (given n) out = output (given n) out
+telling absent out = output absent out
+telling (refused n p i) out = pick (eqb n 11) (output (refused n p i) out) (emit (given (refusedLine n p)) out)
+
+-- in all: the text itself, or that line
 unfoldable pub told : Answer (List ℕ) → List ℕ
 told (given t) = t
 told absent = []

@@ -10,7 +10,7 @@ ghost use Rattle.refusal.specs.Answer.{given};
 ghost use Rattle.refusal.specs.Output.{output, emit, placing, writtenAnswer};
 ghost use Rattle.tlv.specs.Entries.{framing};
 ghost use Rattle.text_writing.specs.Laid.{laid};
-ghost use Rattle.listing.specs.Listing.{pairLine, entryLines, listing, listed, listedHex, lineOf, refusedLine, report, reportReads, reportBytes};
+ghost use Rattle.listing.specs.Listing.{pairLine, entryLines, listing, listed, listedHex, lineOf, refusedLine, telling, report, reportReads, reportBytes};
 
 // A listing program reads no more than this: with one byte more than the digits and their newline, a text that is too long is told apart.
 pub const REPORT_READS: usize = refusal::MAX_DIGITS + 2;
@@ -116,7 +116,7 @@ fn put_refused(number: u8, place: usize, out: &mut [u8]) -> usize
 }
 
 // The line of a refusal, at the start of out. Refusal: 11.
-pub fn tell(number: u8, place: usize, out: &mut [u8]) -> Written
+fn write_refused(number: u8, place: usize, out: &mut [u8]) -> Written
     ensures { λ r. ⌜ output (writtenAnswer r) (now (out .exit)) ≡ emit (given (refusedLine number place)) (now (out .entry)) ⌝ }
 {
     let mut no_room = [0u8; 0];
@@ -128,20 +128,26 @@ pub fn tell(number: u8, place: usize, out: &mut [u8]) -> Written
     Written::Bytes(need)
 }
 
+// What a program leaves of a listing's answer: a refusal is told as a line, unless it is 11, which is about the listing. Refusal: 11.
+pub fn tell(written: Written, out: &mut [u8]) -> Written
+    ensures { λ r. ⌜ output (writtenAnswer r) (now (out .exit)) ≡ telling (writtenAnswer written) (now (out .entry)) ⌝ }
+{
+    let Written::Refused(r) = written else {
+        return written;
+    };
+    let fault = r.fault;
+    let number = fault.number();
+    if number == 11 {
+        return written;
+    }
+    write_refused(number, r.place, out)
+}
+
 // What the program `list` prints for its standard input, at the start of out: the listing, or the refusal as a line. Refusal: 11.
 pub fn report_text(input: &[u8], out: &mut [u8]) -> Written
     ensures { λ r. ⌜ output (writtenAnswer r) (now (out .exit)) ≡ emit (given (report (now (input .entry)))) (now (out .entry)) ⌝ }
 {
     let end = line_end(input);
     let written = list_hex(&input[0..end], out);
-    let Written::Refused(r) = written else {
-        return written;
-    };
-    let fault = r.fault;
-    let number = fault.number();
-    // No room for the listing, which is what the program would print.
-    if number == 11 {
-        return written;
-    }
-    tell(number, r.place, out)
+    tell(written, out)
 }

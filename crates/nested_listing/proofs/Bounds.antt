@@ -1,5 +1,6 @@
--- The length of the text in the payload's. `nested-short`: seven bytes of text for each byte of the payload are enough (six are not: `six-too-few`, worked/proofs/NestedListing.antt). So what the
--- program `nested` prints has at most `nestedReportBytes` bytes (`report-short`), and it always prints (`report-written`).
+-- The length of the text in the payload's. `nested-short`: seven bytes of text for each byte of the payload are enough (six are not: `six-too-few`,
+-- worked/proofs/NestedListing.antt). So what the program `nested` prints has at most `nestedReportBytes` bytes (`report-short`), and it always prints
+-- (`report-written`).
 -- Assumes nothing.
 use mathlib.Core.Path.{_≡_}
 use mathlib.Core.List.{List, [], _∷_, _++_}
@@ -18,13 +19,13 @@ use Rattle.laws.proofs.Answers.{gives}
 use Rattle.tlv.specs.Entries as entries
 use Rattle.tlv.specs.Limits.{framed}
 use Rattle.tlv.proofs.Tally.{Holds, framed-holds}
+use Rattle.tlv.proofs.Fits.{FirstFits, first-fits}
 use Rattle.network_framing.specs.Tlvs as tlvs
 use Rattle.network_framing.proofs.Walks.{walk-whole}
 use Rattle.text_writing.specs.Decimal.{decimal}
 use Rattle.text_writing.proofs.Decimals.{length-one, length-few, length-below}
 use Rattle.listing.specs.Listing.{pairLine}
 use Rattle.listing.proofs.Lines.{length-line}
-use Rattle.tlv.proofs.Fits.{FirstFits, first-fits}
 use Rattle.listing.proofs.Bounds.{Bounded, Decodes, Listable, AtMost, framed-bounded, text-refuses, text-short, text-written}
 use Rattle.nested_listing.specs.Tree.{Items, none, item, indent, itemLine, cutLine, lines}
 use Rattle.nested_listing.specs.Nested.{pieces, tlvs, thirdHolds, inner, afterOpening, secondHolds, network, firstHolds, payload, nested}
@@ -77,7 +78,8 @@ module _ (l over : ℕ) (room : 2 * l + 4 ≤ 7 + over) (holds : ℕ → List �
   step-light s at tlvs.cut next w go = omega (arith, length-cut l)
   step-light s at (tlvs.one t u rest) next w go =
       let value = take (length u) (drop (at + 2) v) in
-      let own = light t (length u) value (w .0) (w .1) (omega (arith, length-take (length u) (drop (at + 2) v))) (every-take _ (length u) (drop (at + 2) v) (every-drop _ (at + 2) v bytes)) in
+      let short : length value ≤ length u = omega (arith, length-take (length u) (drop (at + 2) v)) in
+      let own = light t (length u) value (w .0) (w .1) short (every-take _ (length u) (drop (at + 2) v) (every-drop _ (at + 2) v bytes)) in
       let on = next (at + 2 + length u) rest in
       omega
       (arith, w .3, own, length-more l t (length u) (holds t value) (pieces holds v (on .stop) (on .items)), go (at + 2 + length u) rest (w .2))

@@ -98,6 +98,7 @@ fn holds(nesting: usize, ty: u8, value: &[u8]) -> Held
         }
         return Held::Nothing;
     }
+    // The level of Network Data.
     if nesting == 2 {
         if ty == 1 {
             return match network_framing::head_at(value, 0, value.len()) {
@@ -183,14 +184,5 @@ pub fn report_text(input: &[u8], out: &mut [u8]) -> Written
 {
     let end = listing::line_end(input);
     let written = list_nested_hex(&input[0..end], out);
-    let Written::Refused(r) = written else {
-        return written;
-    };
-    let fault = r.fault;
-    let number = fault.number();
-    // No room for the listing, which is what the program would print.
-    if number == 11 {
-        return written;
-    }
-    listing::tell(number, r.place, out)
+    listing::tell(written, out)
 }

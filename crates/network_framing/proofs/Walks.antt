@@ -169,7 +169,9 @@ walk-whole (b ∷ v) = simp (lt-leb (length (b ∷ v)) 0 (omega arith), le-ltb (
 pub head-whole : (v : List ℕ) → headAt v 0 (length v) ≡ innerOf 0 (opened v)
 unfolding headAt innerOf opened
 head-whole [] = refl
-head-whole (b ∷ v) = simp (lt-leb (length (b ∷ v)) 0 (omega arith), le-ltb (length (b ∷ v)) (length (b ∷ v)) (omega arith), sub-zero) (ap (λ (l : List ℕ). innerOf 0 (opened l)) (take-length (b ∷ v)))
+head-whole (b ∷ v) =
+    simp (lt-leb (length (b ∷ v)) 0 (omega arith), le-ltb (length (b ∷ v)) (length (b ∷ v)) (omega arith), sub-zero)
+    (ap (λ (l : List ℕ). innerOf 0 (opened l)) (take-length (b ∷ v)))
 
 -- what a turn of a loop over the TLVs learns of the walk from its place, by what `sub_in` found there
 module _ (s : List ℕ) (at end : ℕ) (r : SubTlv) (told : subAnswer r ≡ subIn s at end) where

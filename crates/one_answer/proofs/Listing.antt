@@ -24,7 +24,7 @@ line-end x r q left over = both (x .𝓤) _ _ _ (λ e f. (e ∙ sym f, refl))
 
 -- listing::tell
 pub tell : One Rattle.listing.proofs.tell.ended (λ M. Rattle.listing.proofs.tell.clauses)
-tell x r q left over = both (x .𝓤) _ _ _ (λ e f. let same = leaves writtenAnswer written-tells _ r q _ _ e f in (same .0, λ i. (tt, (tt, (same .1 i, tt)))))
+tell x r q left over = both (x .𝓤) _ _ _ (λ e f. let same = leaves writtenAnswer written-tells _ r q _ _ e f in (same .0, λ i. (tt, (same .1 i, tt))))
 
 -- listing::report_text
 pub report-text : One Rattle.listing.proofs.report_text.ended (λ M. Rattle.listing.proofs.report_text.clauses)

@@ -1,6 +1,6 @@
 -- The laws of `decimal`: one digit more, its length, and that it can be read back.
 -- Assumes nothing.
-use mathlib.Core.Path.{_≡_, refl, sym, ap, _∙_}
+use mathlib.Core.Path.{_≡_, refl, ap, _∙_}
 use mathlib.Core.List.{List, [], _∷_, _++_}
 use Prim.Native.Nat.{ℕ, zero, suc, _+_, _-_, _*_, _/_, _%_, _^_, _≤_, _<_}
 use native.Mathlib.Omega.{arith}
@@ -23,7 +23,7 @@ any-fuel (suc k) (suc m) n h l =
     (λ e. rw e (ap (λ (ds : List ℕ). ds ++ ((48 + n % 10) ∷ [])) (any-fuel k m (n / 10) (omega (arith, ltb-false)) (omega (arith, ltb-false)))))
 
 -- THE STEP, with no fuel in it
-pub decimal-step : (n : ℕ) → decimal n ≡ pick (ltb n 10) ((48 + n) ∷ []) (decimal (n / 10) ++ ((48 + n % 10) ∷ []))
+decimal-step : (n : ℕ) → decimal n ≡ pick (ltb n 10) ((48 + n) ∷ []) (decimal (n / 10) ++ ((48 + n % 10) ∷ []))
 unfolding decimal decimalIn
 decimal-step n =
     by-test (ltb n 10)
@@ -89,6 +89,3 @@ reads-back (suc k) n h =
 
 pub number-decimal : (n : ℕ) → number (decimal n) ≡ n
 number-decimal n = reads-back (suc n) n (omega arith)
-
-pub decimal-tells : (m n : ℕ) → decimal m ≡ decimal n → m ≡ n
-decimal-tells m n e = sym (number-decimal m) ∙ ap number e ∙ number-decimal n

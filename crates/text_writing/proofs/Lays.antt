@@ -75,7 +75,7 @@ at-most (b ∷ bs) at out =
     (λ e. omega (arith, after-one at (ltb-true _ _ e), at-most bs (placeAfter at) (set out at b)))
     (λ e. omega (arith, after-last at (ltb-false _ _ e), at-most bs (placeAfter at) (set out at b)))
 
--- all of it, where the count does not stop
+-- `put`, where the count does not stop
 pub laid-fits : (text : List ℕ) (at : ℕ) (out : List ℕ) → at + length text ≤ lastPlace → laid at out text ≡ placing (at + length text) (put out at text)
 unfolding laid put
 laid-fits [] at out h = ap (λ (k : ℕ). placing k out) (sym (add-zero at))

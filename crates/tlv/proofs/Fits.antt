@@ -1,4 +1,4 @@
--- The entries of bytes: types and values are bytes, a length is one of two bytes, and places and lengths lie within the input.
+-- The entries of bytes: types and values are bytes, a length is below 65,536, and places and lengths lie within the input.
 -- Assumes nothing.
 use mathlib.Core.Path.{_≡_}
 use mathlib.Core.List.{List, [], _∷_}

@@ -27,18 +27,18 @@ second-level t n = 32 ∷ 32 ∷ (48 + t) ∷ 32 ∷ (48 + n) ∷ 10 ∷ []
 abbrev pub third-level : (ty len : ℕ) → List ℕ
 third-level t n = 32 ∷ 32 ∷ 32 ∷ 32 ∷ (48 + t) ∷ 32 ∷ (48 + n) ∷ 10 ∷ []
 
-abbrev pub second-cut : List ℕ
-second-cut = 32 ∷ 32 ∷ 99 ∷ 117 ∷ 116 ∷ 10 ∷ []
+abbrev pub cut-at-second : List ℕ
+cut-at-second = 32 ∷ 32 ∷ 99 ∷ 117 ∷ 116 ∷ 10 ∷ []
 
-abbrev pub third-cut : List ℕ
-third-cut = 32 ∷ 32 ∷ 32 ∷ 32 ∷ 99 ∷ 117 ∷ 116 ∷ 10 ∷ []
+abbrev pub cut-at-third : List ℕ
+cut-at-third = 32 ∷ 32 ∷ 32 ∷ 32 ∷ 99 ∷ 117 ∷ 116 ∷ 10 ∷ []
 
 -- Network Data of five prefixes without bytes, and its listing
 abbrev pub dense : List ℕ
 dense = 0x07 ∷ 0x0a ∷ 0x02 ∷ 0x00 ∷ 0x02 ∷ 0x00 ∷ 0x02 ∷ 0x00 ∷ 0x02 ∷ 0x00 ∷ 0x02 ∷ 0x00 ∷ []
 
 abbrev two-lines : List ℕ
-two-lines = second-level 1 0 ++ third-cut
+two-lines = second-level 1 0 ++ cut-at-third
 
 abbrev pub denseText : List ℕ
 denseText = (55 ∷ 32 ∷ 49 ∷ 48 ∷ 10 ∷ []) ++ two-lines ++ two-lines ++ two-lines ++ two-lines ++ two-lines
@@ -53,12 +53,12 @@ examples =
     ([], given [])
     ∷ (0x03 ∷ [], refused 2 0 0)
     -- Network Data that is no list; a prefix that is too short
-    ∷ (0x07 ∷ 0x01 ∷ 0x03 ∷ [], given (first-level 7 1 ++ second-cut))
-    ∷ (0x07 ∷ 0x02 ∷ 0x02 ∷ 0x00 ∷ [], given (first-level 7 2 ++ second-level 1 0 ++ third-cut))
+    ∷ (0x07 ∷ 0x01 ∷ 0x03 ∷ [], given (first-level 7 1 ++ cut-at-second))
+    ∷ (0x07 ∷ 0x02 ∷ 0x02 ∷ 0x00 ∷ [], given (first-level 7 2 ++ second-level 1 0 ++ cut-at-third))
     -- the list goes on after one
     ∷ (
       0x07 ∷ 0x04 ∷ 0x02 ∷ 0x00 ∷ 0x00 ∷ 0x00 ∷ [],
-      given (first-level 7 4 ++ second-level 1 0 ++ third-cut ++ second-level 0 0),
+      given (first-level 7 4 ++ second-level 1 0 ++ cut-at-third ++ second-level 0 0),
     )
     -- a prefix in a prefix is not opened, and the stable bit is no part of its type
     ∷ (
@@ -68,12 +68,12 @@ examples =
     -- lists that are cut after a good item
     ∷ (
       0x07 ∷ 0x09 ∷ 0x02 ∷ 0x06 ∷ 0x00 ∷ 0x00 ∷ 0x05 ∷ 0x01 ∷ 0xaa ∷ 0x03 ∷ 0x04 ∷ [],
-      given (first-level 7 9 ++ second-level 1 6 ++ third-level 2 1 ++ third-cut ++ second-cut),
+      given (first-level 7 9 ++ second-level 1 6 ++ third-level 2 1 ++ cut-at-third ++ cut-at-second),
     )
     -- every entry of type 7 is opened, and the payload goes on after those that are cut
     ∷ (
       0x07 ∷ 0x02 ∷ 0x03 ∷ 0x00 ∷ 0x07 ∷ 0x01 ∷ 0x02 ∷ 0x03 ∷ 0x00 ∷ [],
-      given (first-level 7 2 ++ second-level 1 0 ++ third-cut ++ first-level 7 1 ++ second-cut ++ first-level 3 0),
+      given (first-level 7 2 ++ second-level 1 0 ++ cut-at-third ++ first-level 7 1 ++ cut-at-second ++ first-level 3 0),
     )
     ∷ (dense, given denseText)
     ∷ []

@@ -1,47 +1,53 @@
--- `listing::tell` meets its contract: 11 by the size that the line takes in no room, or the line.
+-- `listing::tell` meets its contract: what is given, and 11, as they are; the line of any other refusal.
 -- Assumes nothing.
-use mathlib.Core.Path.{refl}
-use native.Mathlib.Omega.{arith}
-use Rattle.text_writing.proofs.Lays.{lays-no-room, lays-done}
+use mathlib.Core.Path.{sym, _∙_}
 use borrow.Author.Needs.{needs}
+use Rattle.listing.proofs.Tells.{telling-given, telling-eleven, telling-other}
 use Rattle.listing.proofs.tell.Statement.{statement}
 use Rattle.listing.proofs.tell.Tie as tie
 
-slice-aggregate-put-refused : tie.Need-slice-aggregate-put-refused
-slice-aggregate-put-refused c = search needs
+enum-known-written : tie.Need-enum-known-written
+enum-known-written c = search needs
 
-put-refused-requires : tie.Need-put-refused-requires
-put-refused-requires c κs = search needs
-
-refuse-requires : tie.Need-refuse-requires
-refuse-requires c κs = search needs
+enum-told : tie.Need-enum-told
+enum-told c = search needs
 
 returns : tie.Need-returns
-returns c =
-    let n = c .before .before .before in
-    rw (c .refuse .ensures) (lays-no-room _ _ _ refl _ _ _ (n .put-refused .ensures) (c .before .if1 .taken))
+returns c = rw (c .enum-told .given .1) (telling-given _ _)
 
-put-refused-requires-2 : tie.Need-put-refused-requires-2
-put-refused-requires-2 c κs = search needs
+number-requires : tie.Need-number-requires
+number-requires c κs = search needs
+
+returns-2 : tie.Need-returns-2
+returns-2 c =
+    let n = c .before in
+    let t = n .before .before in
+    rw (t .written .given .1) (telling-eleven _ _ _ _ (sym (n .number .ensures) ∙ c .if1 .taken))
+
+write-refused-requires : tie.Need-write-refused-requires
+write-refused-requires c κs = search needs
 
 same-length : tie.Need-same-length
 same-length c = search needs
 
-returns-2 : tie.Need-returns-2
-returns-2 c =
+returns-3 : tie.Need-returns-3
+returns-3 c =
     let w = c .before .before in
     let i = w .before .before in
-    let n = i .before .before in
-    lays-done _ _ _ refl _ _ _ (n .put-refused .ensures) (omega (arith, n .before .before .before .good .1 .1 .0)) (i .if1 .left) _ _ (w .put-refused2 .ensures)
+    let n = i .before in
+    let t = n .before .before in
+    let other = telling-other _ _ _ _ (λ eleven. i .if1 .left (n .number .ensures ∙ eleven)) in
+    rw (t .written .given .1) (rw (n .number .ensures) at (w .write-refused .ensures) ∙ other)
 
 pub tell-spec : {M : Type 1} → statement M
 tell-spec =
     tie.close
     (tie.spec
-    slice-aggregate-put-refused
-    put-refused-requires
-    refuse-requires
+    enum-known-written
+    enum-told
     returns
-    put-refused-requires-2
+    number-requires
+    returns-2
+    write-refused-requires
     same-length
-    returns-2)
+    returns-3)

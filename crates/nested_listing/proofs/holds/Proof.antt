@@ -1,4 +1,4 @@
--- `nested_listing::holds` meets its contract, by the levels that are left and the type.
+-- `nested_listing::holds` meets its contract, by the nesting that is still allowed and the type.
 -- Assumes nothing.
 use mathlib.Core.Path.{sym, ap, _∙_}
 use native.Mathlib.Omega.{arith}
