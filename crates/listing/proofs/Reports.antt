@@ -5,6 +5,7 @@ use mathlib.Core.Path.{_≡_, refl, sym, ap, _∙_}
 use mathlib.Core.List.{List, [], _∷_}
 use Prim.Native.Nat.{ℕ, _+_, _-_, _≤_, _<_}
 use native.Mathlib.Omega.{arith}
+use native.Mathlib.Nat.{sub-zero}
 use lib.ListN.{length, take, getD}
 use lib.Seq.{take-length, take-all, length-take-le}
 use lib.Dec.{ltb, eqb}
@@ -31,6 +32,10 @@ module _ (x : List ℕ) where
       pick-all (λ (l : List ℕ). (length l ≤ length x) × (take (length l) x ≡ l)) (eqb (getD x (length x - 1) 0) 10) (take (length x - 1) x) x
       (λ e. let n = length-take-le (length x - 1) x (omega arith) in
       (omega arith, ap (λ (k : ℕ). take k x) n)) (λ e. (omega arith, take-length x))
+
+-- the part from 0 to n
+pub line-part : (x : List ℕ) (n : ℕ) → n ≡ length (lineOf x) → take (n - 0) x ≡ lineOf x
+line-part x n e = ap (λ (k : ℕ). take k x) (sub-zero n ∙ e) ∙ line-start x .1
 
 pub line-none : (x : List ℕ) → length x ≡ 0 → 0 ≡ length (lineOf x)
 unfolding lineOf

@@ -1,11 +1,13 @@
 -- `listing::report_text` meets its contract: what is told of the listing of the input's line.
 -- Assumes nothing.
-use mathlib.Core.Path.{_∙_}
+use mathlib.Core.Path.{ap, _∙_}
+use mathlib.Core.List.{List}
+use Prim.Native.Nat.{ℕ}
 use native.Mathlib.Omega.{arith}
-use native.Mathlib.Nat.{sub-zero}
 use borrow.Author.Needs.{needs}
-use Rattle.listing.specs.Listing.{reportBy}
-use Rattle.listing.proofs.Reports.{line-start}
+use Rattle.refusal.specs.Output.{emit}
+use Rattle.listing.specs.Listing.{listedHex, reportBy}
+use Rattle.listing.proofs.Reports.{line-start, line-part}
 use Rattle.listing.proofs.Bounds.{hex-refuses}
 use Rattle.listing.proofs.Tells.{tells}
 use Rattle.listing.proofs.report_text.Statement.{statement}
@@ -38,7 +40,9 @@ returns c =
     let t = c .before .before in
     let h = t .before .before .before .before in
     let e = h .before .before .before in
-    let listed = rw (sub-zero, e .line-end .ensures, line-start _ .1) at (h .list-hex .ensures) in
+    let out = e .before .before .before .args .out .now in
+    let line = line-part _ _ (e .line-end .ensures) in
+    let listed = h .list-hex .ensures ∙ ap (λ (l : List ℕ). emit (listedHex l) out) line in
     t .tell .ensures ∙ tells _ (hex-refuses _) _ _ (h .list-hex .result) listed
 
 pub report-text-spec : {M : Type 1} → statement M

@@ -1,12 +1,15 @@
 -- `nested_listing::report_text` meets its contract: what is told of the listing of the input's line.
 -- Assumes nothing.
-use mathlib.Core.Path.{_∙_}
+use mathlib.Core.Path.{ap, _∙_}
+use mathlib.Core.List.{List}
+use Prim.Native.Nat.{ℕ}
 use native.Mathlib.Omega.{arith}
-use native.Mathlib.Nat.{sub-zero}
 use borrow.Author.Needs.{needs}
+use Rattle.refusal.specs.Output.{emit}
 use Rattle.listing.specs.Listing.{reportBy}
-use Rattle.listing.proofs.Reports.{line-start}
+use Rattle.listing.proofs.Reports.{line-start, line-part}
 use Rattle.listing.proofs.Tells.{tells}
+use Rattle.nested_listing.specs.Report.{nestedHex}
 use Rattle.nested_listing.proofs.Bounds.{hex-refuses}
 use Rattle.nested_listing.proofs.report_text.Statement.{statement}
 use Rattle.nested_listing.proofs.report_text.Tie as tie
@@ -38,7 +41,9 @@ returns c =
     let t = c .before .before in
     let h = t .before .before .before .before in
     let e = h .before .before .before in
-    let listed = rw (sub-zero, e .line-end .ensures, line-start _ .1) at (h .list-nested-hex .ensures) in
+    let out = e .before .before .before .args .out .now in
+    let line = line-part _ _ (e .line-end .ensures) in
+    let listed = h .list-nested-hex .ensures ∙ ap (λ (l : List ℕ). emit (nestedHex l) out) line in
     t .tell .ensures ∙ tells _ (hex-refuses _) _ _ (h .list-nested-hex .result) listed
 
 pub report-text-spec : {M : Type 1} → statement M
