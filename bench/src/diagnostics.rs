@@ -38,20 +38,25 @@ pub fn route64() -> Vec<u8> {
     value
 }
 
-/// Prefixes of 128 bytes, each with a context, a row of each kind and an inner TLV that is passed over: 64 of them are 8,192 bytes.
+/// The most prefixes that there may be.
+const PREFIXES: usize = 64;
+
+/// Prefixes of 128 bytes, or as many as there may be and longer: at most 256 bytes, since the length of a TLV is a byte. Each has a context, a row of each
+/// kind, and an inner TLV that is passed over, which fills it.
 fn network_data(size: usize) -> Vec<u8> {
+    let n = PREFIXES.min(size / 128);
     let prefix = |k: usize| {
         let mut value = vec![k as u8, 64];
         value.extend(some(8));
         value.extend([0x06, 2, 0x11, 64]);
         value.extend([0x00, 3, 0x12, k as u8, 0x60]);
         value.extend([0x04, 4, 0x34, k as u8, 0x55, 0x80]);
-        value.extend(entry(0x12, &some(99)));
+        value.extend(entry(0x12, &some(size / n - value.len() - 4)));
         let mut tlv = vec![0x03, value.len() as u8];
         tlv.extend(value);
         tlv
     };
-    (0..size / 128).flat_map(prefix).collect()
+    (0..n).flat_map(prefix).collect()
 }
 
 /// Children with three addresses each: 52 bytes.

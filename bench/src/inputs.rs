@@ -4,7 +4,8 @@ use crate::addresses::Addresses;
 use crate::diagnostics::Diagnostics;
 use crate::writing::Writing;
 
-pub const MOST: usize = 8192;
+/// The most bytes of an input.
+pub const MOST: usize = 16384;
 
 pub struct Input {
     pub dataset: Vec<u8>,
@@ -18,9 +19,12 @@ pub struct Input {
     pub writing: Writing,
 }
 
-/// Entries of 64 bytes: 128 of them are 8,192 bytes.
+/// The bytes of an entry of a dataset, and of an operation: MOST has as many of them as there may be.
+const ENTRY: usize = 64;
+
+/// Each entry of another type: a type for each of them at MOST too.
 fn dataset(size: usize) -> Vec<u8> {
-    (0..size / 64).flat_map(|k| entry(k as u8, 62)).collect()
+    (0..size / ENTRY).flat_map(|k| entry(k as u8, ENTRY as u8 - 2)).collect()
 }
 
 fn entry(ty: u8, len: u8) -> Vec<u8> {
@@ -29,12 +33,12 @@ fn entry(ty: u8, len: u8) -> Vec<u8> {
     bytes
 }
 
-/// Operations of 64 bytes, each type set twice: the fold keeps half, and what is run on the dataset fits.
+/// Operations, each type set twice: the fold keeps half, and what is run on the dataset fits.
 fn list(size: usize) -> Vec<u8> {
-    (0..size / 64)
+    (0..size / ENTRY)
         .flat_map(|k| {
             let mut bytes = vec![0x53, 0x45];
-            bytes.extend(entry((k / 2) as u8, 60));
+            bytes.extend(entry((k / 2) as u8, ENTRY as u8 - 4));
             bytes
         })
         .collect()
@@ -44,7 +48,7 @@ impl Input {
     pub fn of(size: usize) -> Input {
         let dataset = dataset(size);
         Input {
-            last: (size / 64 - 1) as u8,
+            last: (size / ENTRY - 1) as u8,
             hex: hex::encode(&dataset).into_bytes(),
             ascii: (0..size).map(|k| b'a' + (k % 26) as u8).collect(),
             mixed: "aé本😀".bytes().cycle().take(size / 10 * 10).collect(),

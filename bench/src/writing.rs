@@ -3,6 +3,9 @@ use crate::inputs::MOST;
 use crate::{diagnostics, ours};
 use meshcop::meshcop::diag::NetDiagData;
 
+/// One of each kind of row for so many bytes.
+const PER: usize = 128;
+
 pub struct Writing {
     pub n: u8,
     pub routes: Vec<u8>,
@@ -12,9 +15,9 @@ pub struct Writing {
 }
 
 impl Writing {
-    /// The Rust's record is read from what the library writes: the limit must write the same bytes again.
+    /// The Rust's record is read from what the library writes: the limit must write the same bytes again. What is lent has the addresses of the larger record.
     pub fn of(size: usize) -> Writing {
-        let (n, routes, parts) = ((size / 128) as u8, diagnostics::route64(), diagnostics::some(1024));
+        let (n, routes, parts) = ((size / PER) as u8, diagnostics::route64(), diagnostics::some(MOST / PER * 16));
         let mut payload = vec![0; MOST];
         let len = ours::write(&routes, &parts, n, &mut payload);
         payload.truncate(len as usize);

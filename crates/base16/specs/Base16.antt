@@ -26,10 +26,13 @@ digits at (a ∷ b ∷ rest) =
     thenDo (digitValue at a)
     (λ hi. thenDo (digitValue (at + 1) b) (λ lo. onGiven (λ (bs : List ℕ). (hi * 16 + lo) ∷ bs) (digits (at + 2) rest)))
 
--- the bytes of a text: "1, then 7 and 8 for hex"
+-- the bytes of a text: "1, then 7 and 8 for hex", where so many digits are the most
+abbrev pub decodedWithin : (most : ℕ) → List ℕ → Answer (List ℕ)
+decodedWithin most x = pick (ltb most (length x)) (refused 1 0 0) (pick (eqb (length x % 2) 1) (refused 7 0 0) (digits 0 x))
+
+-- within today's size
 unfoldable pub decoded : List ℕ → Answer (List ℕ)
-decoded x =
-    pick (ltb mostDigits (length x)) (refused 1 0 0) (pick (eqb (length x % 2) 1) (refused 7 0 0) (digits 0 x))
+decoded x = decodedWithin mostDigits x
 
 -- a text as it would be written: 'A' to 'F' in lower case, every other character as it is
 unfoldable pub lowered : List ℕ → List ℕ

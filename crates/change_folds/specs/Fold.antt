@@ -48,10 +48,13 @@ unfoldable pub foldAll : List Op → List Op
 foldAll os = removalsBelow types (lasts os) ++ setsOf (lasts os)
 
 -- 10, "result over the sizes above"
+abbrev pub sizedOpsWithin : (bytes most : ℕ) → List Op → Answer (List ℕ)
+sizedOpsWithin bytes most os =
+    pick (ltb bytes (length (encodeOps os))) (refused 10 0 0) (pick (ltb most (length os)) (refused 10 0 0) (given (encodeOps os)))
+
+-- within today's sizes
 unfoldable pub sizedOps : List Op → Answer (List ℕ)
-sizedOps os =
-    pick (ltb mostBytes (length (encodeOps os))) (refused 10 0 0)
-    (pick (ltb mostEntries (length os)) (refused 10 0 0) (given (encodeOps os)))
+sizedOps os = sizedOpsWithin mostBytes mostEntries os
 
 unfoldable pub folded : List ℕ → Answer (List ℕ)
 folded l = thenDo (operations 0 l) (λ (os : List OpAt). sizedOps (foldAll (bare os)))

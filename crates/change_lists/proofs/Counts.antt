@@ -1,4 +1,4 @@
--- The count of operations from a state of the loop on: n are passed, over is the place of the 129th where that one is passed, and st and
+-- The count of operations from a state of the loop on: n are passed, over is the place of the first past the most where that one is passed, and st and
 -- os are how the list goes on. And what a caller of `count_operations` learns.
 -- Assumes nothing.
 use mathlib.Core.Path.{_≡_, refl, ap, _∙_}
@@ -31,12 +31,12 @@ module _ (i : ℕ) where
   pick-length true p os = refl
   pick-length false p os = refl
 
-  start-by : (st : Stop) (os : List OpAt) → tallyBy 0 0 st os ≡ onGiven length (limitedOps i st os)
+  start-by : (st : Stop) (os : List OpAt) → tallyBy 0 0 st os ≡ onGiven length (limitedOps mostEntries i st os)
   unfolding tallyBy limitedOps
   start-by (cutAt p) os = refl
-  start-by clean os = simp zero-add (pick-length (ltb mostEntries (length os)) (placeOfNextOp os) os)
+  start-by clean os = simp zero-add (pick-length (ltb mostEntries (length os)) (placeOfNextOp mostEntries os) os)
 
-  pub tally-start : (s : List ℕ) → tally 0 0 (opsFrom s 0) ≡ onGiven length (limitedOps i (opsOf s .stop) (opsOf s .ops))
+  pub tally-start : (s : List ℕ) → tally 0 0 (opsFrom s 0) ≡ onGiven length (limitedOps mostEntries i (opsOf s .stop) (opsOf s .ops))
   unfolding tally
   tally-start s = ap (tally 0 0) (ops-start s) ∙ start-by (opsOf s .stop) (opsOf s .ops)
 

@@ -23,7 +23,7 @@ IfGiven s (given os) = Read s os
 IfGiven s absent = Unit {0}
 IfGiven s (refused n p i) = Unit {0}
 
-limited-read : (i : ℕ) (s : List ℕ) (st : Stop) → opsOf s .stop ≡ st → length s ≤ mostBytes → IfGiven s (limitedOps i st (opsOf s .ops))
+limited-read : (i : ℕ) (s : List ℕ) (st : Stop) → opsOf s .stop ≡ st → length s ≤ mostBytes → IfGiven s (limitedOps mostEntries i st (opsOf s .ops))
 unfolding limitedOps
 limited-read i s (cutAt p) e h = tt
 limited-read i s clean e h =

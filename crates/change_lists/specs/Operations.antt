@@ -69,8 +69,8 @@ opsIn (suc k) at s = opStep at s (firstOp s) (λ (next : ℕ) (rest : List ℕ).
 unfoldable pub opsOf : List ℕ → Listed
 opsOf s = opsIn (length s) 0 s
 
-abbrev pub placeOfNextOp : List OpAt → ℕ
-placeOfNextOp os = getD os mostEntries (opAt 0 (remove 0)) .place
+abbrev pub placeOfNextOp : (most : ℕ) → List OpAt → ℕ
+placeOfNextOp most os = getD os most (opAt 0 (remove 0)) .place
 
 -- the operations, without their places
 unfoldable pub bare : List OpAt → List Op
@@ -86,10 +86,14 @@ unfoldable pub encodeOps : List Op → List ℕ
 encodeOps [] = []
 encodeOps (o ∷ os) = encodeOp o ++ encodeOps os
 
-unfoldable pub limitedOps : (input : ℕ) → Stop → List OpAt → Answer (List OpAt)
-limitedOps i (cutAt p) os = refused 9 p i
-limitedOps i clean os = pick (ltb mostEntries (length os)) (refused 3 (placeOfNextOp os) i) (given os)
+unfoldable pub limitedOps : (most input : ℕ) → Stop → List OpAt → Answer (List OpAt)
+limitedOps most i (cutAt p) os = refused 9 p i
+limitedOps most i clean os = pick (ltb most (length os)) (refused 3 (placeOfNextOp most os) i) (given os)
 
--- "Lists are tested 1, 9, 3"
+-- "Lists are tested 1, 9, 3", where so many bytes and operations are the most
+abbrev pub operationsWithin : (bytes most input : ℕ) → List ℕ → Answer (List OpAt)
+operationsWithin bytes most i s = pick (ltb bytes (length s)) (refused 1 0 i) (limitedOps most i (opsOf s .stop) (opsOf s .ops))
+
+-- within today's sizes
 unfoldable pub operations : (input : ℕ) → List ℕ → Answer (List OpAt)
-operations i s = pick (ltb mostBytes (length s)) (refused 1 0 i) (limitedOps i (opsOf s .stop) (opsOf s .ops))
+operations i s = operationsWithin mostBytes mostEntries i s

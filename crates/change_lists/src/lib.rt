@@ -87,7 +87,7 @@ fn refuse(fault: Fault, place: usize, input: u8) -> CountedOps
     })
 }
 
-// What the walk answers where it ends, n operations passed: 9 at the place of one that is none, then 3 at the place of the 129th, over.
+// What the walk answers where it ends, n operations passed: 9 at the place of one that is none, then 3 at the place of the first past the most, over.
 fn stopped(bad: bool, at: usize, n: usize, over: usize, input: u8) -> CountedOps
     ensures { λ r. ⌜ countedOpsAnswer r ≡ pick bad (refused 9 at input) (pick (ltb mostEntries n) (refused 3 over input) (given n)) ⌝ }
 {

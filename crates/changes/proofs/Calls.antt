@@ -21,8 +21,9 @@ use Rattle.tlv_writing.specs.Encode.{encodeAll, sized}
 use Rattle.change_lists.specs.Operations.{Op, encodeOps, operations}
 use Rattle.change_folds.specs.Run.{ran}
 use Rattle.change_folds.specs.Fold.{sizedOps, folded, foldedTwo}
-use Rattle.change_folds.specs.Demand.{Changes, Dataset, Roomy, running, folding, foldingTwo, wrote, Same}
+use Rattle.change_folds.specs.Demand.{Changes, Dataset}
 use Rattle.change_folds.proofs.Demand.{same-fold-same-effect, folded-apart, either-grouping, always-folds, empty-fits, two-run, shortest}
+use Rattle.changes.specs.Demand.{Roomy, running, folding, foldingTwo, wrote, Same}
 
 -- ---- what is answered within the limit of bytes
 

@@ -74,11 +74,11 @@ decoded-bounded x =
 abbrev pub Listable : List Entry → Type 0
 Listable es = (length es ≤ mostEntries) × Every (Fits mostBytes) es
 
-limited-bounded : (st : Stop) (es : List Entry) → Stops mostBytes st → Every (Fits mostBytes) es → Bounded Listable (limited 0 st es)
+limited-bounded : (st : Stop) (es : List Entry) → Stops mostBytes st → Every (Fits mostBytes) es → Bounded Listable (limited mostEntries 0 st es)
 unfolding limited
 limited-bounded (cutAt p) es k f = (omega arith, omega arith)
 limited-bounded clean es k f =
-    pick-all (Bounded Listable) (ltb mostEntries (length es)) (refused 3 (placeOfNext es) 0) (given es)
+    pick-all (Bounded Listable) (ltb mostEntries (length es)) (refused 3 (placeOfNext mostEntries es) 0) (given es)
     (λ e. (omega arith, omega (arith, place-within mostBytes mostEntries es f))) (λ e. (ltb-false _ _ e, f))
 
 pub framed-bounded : (s : List ℕ) → Decodes s → Bounded Listable (framed 0 s)

@@ -42,7 +42,7 @@ Few (given es) = length es ≤ mostEntries
 Few absent = Unit {0}
 Few (refused n p i) = Unit {0}
 
-limited-few : (st : Stop) (es : List Entry) → Few (limited 0 st es)
+limited-few : (st : Stop) (es : List Entry) → Few (limited mostEntries 0 st es)
 unfolding limited
 limited-few (cutAt p) es = tt
 limited-few clean es = pick-all Few (ltb mostEntries (length es)) _ (given es) (λ e. tt) (λ e. ltb-false _ _ e)

@@ -2,16 +2,15 @@
 -- Assumes nothing.
 use Prim.Native.Nat.{ℕ}
 
--- "at most 8,192 bytes and 128 entries in a dataset or payload; 8,192 bytes and 128 operations in a change list"
+-- "Raise datasets, payloads and change lists alike to 16,384 bytes and 256 entries or operations; hex input to 32,768 digits" (document 02, Six)
 abbrev pub mostBytes : ℕ
-mostBytes = 8192
+mostBytes = 16384
 
 abbrev pub mostEntries : ℕ
-mostEntries = 128
+mostEntries = 256
 
--- "(16,384 hex digits)"
 abbrev pub mostDigits : ℕ
-mostDigits = 16384
+mostDigits = 32768
 
 -- "for each Network Data value 64 prefixes and, over all of them, 96 HasRoute rows and 96 BorderRouter rows"
 abbrev pub mostPrefixes : ℕ

@@ -7,11 +7,11 @@ ghost use Rattle.refusal.specs.Number.{faultNumber};
 ghost use Rattle.refusal.specs.Output.{writtenAnswer};
 
 // A dataset, payload, change list or bare value has at most so many bytes, and hex text twice as many digits.
-pub const MAX_BYTES: usize = 8192;
+pub const MAX_BYTES: usize = 16384;
 
-pub const MAX_DIGITS: usize = 16384;
+pub const MAX_DIGITS: usize = 32768;
 // A dataset or payload has at most so many entries, a change list so many operations.
-pub const MAX_ENTRIES: usize = 128;
+pub const MAX_ENTRIES: usize = 256;
 
 // The public constants, held to their numbers.
 fn constants() -> [usize; 3]

@@ -2,8 +2,9 @@
 -- Assumes nothing.
 use mathlib.Core.Path.{_≡_, refl}
 use mathlib.Core.List.{List, [], _∷_}
-use Prim.Native.Nat.{ℕ}
+use Prim.Native.Nat.{ℕ, _+_}
 use lib.ListN.{replicate}
+use Rattle.refusal.specs.Sizes.{mostEntries}
 use Rattle.refusal.specs.Answer.{given, refused}
 use Rattle.refusal.specs.Each.{joined, all}
 use Rattle.wire_bytes.specs.Bytes.{bytesOf}
@@ -138,11 +139,11 @@ missing-list : written (made p.None n.None p.None p.None 2) (tables [] [] (aList
 unfolding written lengthsFit partsShort agrees partsInside passes all
 missing-list = refl
 
--- 129 lists: 10, and 15 before it
-many : written (made p.None n.None p.None p.None 129) (tables [] [] (replicate 129 (aList 1))) ≡ refused 10 0 0
+-- a list more than a payload may have entries: 10, and 15 before it
+many : written (made p.None n.None p.None p.None (mostEntries + 1)) (tables [] [] (replicate (mostEntries + 1) (aList 1))) ≡ refused 10 0 0
 unfolding written lengthsFit partsShort agrees partsInside passes all valuesFit valuesOf entriesOf present entryFor sized encodeAll encode header listBytes bytesOf
 many = refl
 
-wrong-first : written (made p.None n.None p.None p.None 130) (tables [] [] (aList 2 ∷ replicate 129 (aList 1))) ≡ refused 15 0 0
+wrong-first : written (made p.None n.None p.None p.None (mostEntries + 2)) (tables [] [] (aList 2 ∷ replicate (mostEntries + 1) (aList 1))) ≡ refused 15 0 0
 unfolding written lengthsFit partsShort agrees partsInside passes all valuesFit valuesOf
 wrong-first = refl

@@ -6,6 +6,7 @@ use mathlib.Core.List.{List}
 use lib.ListN.{replicate}
 use lib.IntN.{pos}
 use lib.Dec.{eqb}
+use Rattle.refusal.specs.Sizes.{mostPrefixes}
 use Rattle.refusal.specs.Answer.{pick, onGiven}
 use Rattle.diag_rules.specs.Rule.{valueOf}
 use Rattle.route64.specs.Routes.{routeOf, laidOut}
@@ -35,7 +36,7 @@ use Rattle.diag.specs.declared.NetDiagData.{NetDiagData}
 use Rattle.network_bridge.specs.Parts.{places}
 use Rattle.network_bridge.specs.declared.Tables.{Tables}
 use Rattle.record_writing.specs.Lent.{Lent}
-use Rattle.writing_bridge.specs.Places.{childPlaces, listPlaces, lentBy}
+use Rattle.writing_bridge.specs.Places.{childPlaces, listPlaces, atMost, lentBy}
 use Rattle.writing_bridge.specs.declared.Rows.{Rows}
 use Rattle.writing_bridge.specs.declared.Lengths.{Lengths}
 
@@ -77,9 +78,13 @@ countersOf n = record {
   «if_out_discards» = spread n + 8;
 }
 
--- n prefixes, and a row of each kind for each
+-- n prefixes, or the most that there may be
+abbrev pub prefixesFor : ℕ → ℕ
+prefixesFor n = atMost n mostPrefixes
+
+-- and a row of each kind for each
 abbrev pub networkOf : ℕ → NetworkDataPart
-networkOf n = record { start = 0; len = 0; counts = counts n n n }
+networkOf n = record { start = 0; len = 0; counts = counts (prefixesFor n) (prefixesFor n) (prefixesFor n) }
 
 -- every field, with n addresses, 9 n children, and n address lists
 abbrev pub fullOf : ℕ → NetDiagData

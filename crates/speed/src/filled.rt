@@ -1,4 +1,4 @@
-// The record that `speed_write` writes, made of a number: n of all that can be many, and no field at all where n is 0; and its tables, whose rows are alike.
+// The record that `speed_write` writes, made of a number: n of all that can be many, prefixes to their most, and no field at all where n is 0; and its tables, whose rows are alike.
 // The numbers in it are made of n, so that no compiler knows them.
 use connectivity::Connectivity;
 use diag::NetDiagData;
@@ -31,7 +31,7 @@ use writing_bridge::Lengths;
 use writing_bridge::Rows;
 ghost use mathlib.Core.Path.{_≡_};
 ghost use Prim.Native.Nat.{_≤_};
-ghost use Rattle.speed.specs.Filled.{spread, oneMode, linksOf, leaderOf, countersOf, networkOf, fullOf, noField, recordOf, onePrefix, oneRoute, oneBorder, tablesOf, oneChild, oneList, rowsOf, allLent};
+ghost use Rattle.speed.specs.Filled.{spread, oneMode, linksOf, leaderOf, countersOf, prefixesFor, networkOf, fullOf, noField, recordOf, onePrefix, oneRoute, oneBorder, tablesOf, oneChild, oneList, rowsOf, allLent};
 
 fn spread_of(n: u8) -> u32
     ensures { λ r. ⌜ (r ≡ spread n) × (r ≤ 4278292845) ⌝ }
@@ -94,17 +94,27 @@ fn counters_of(n: u8) -> MacCounters
     }
 }
 
+fn prefixes_for(n: usize) -> usize
+    ensures { λ r. ⌜ r ≡ prefixesFor n ⌝ }
+{
+    if n > network_data::MAX_PREFIXES {
+        return network_data::MAX_PREFIXES;
+    }
+    n
+}
+
 // A row of each kind for each prefix. Where it stands does not matter to a writer.
 fn network_of(n: usize) -> NetworkDataPart
     ensures { λ r. ⌜ r ≡ networkOf n ⌝ }
 {
+    let prefixes = prefixes_for(n);
     NetworkDataPart {
         start: 0,
         len: 0,
         counts: Counts {
-            prefixes: n,
-            has_routes: n,
-            border_routers: n,
+            prefixes: prefixes,
+            has_routes: prefixes,
+            border_routers: prefixes,
         },
     }
 }

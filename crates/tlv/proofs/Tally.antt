@@ -1,4 +1,4 @@
--- The count from a state of the loop on: n entries are passed, over is the place of the 129th where that one is passed, and st and es
+-- The count from a state of the loop on: n entries are passed, over is the place of the first past the most where that one is passed, and st and es
 -- are how the walk goes on. And what a caller of `count_entries` learns.
 -- Assumes nothing.
 use mathlib.Core.Path.{_≡_, refl, sym, ap, _∙_, subst}
@@ -30,12 +30,12 @@ module _ (i : ℕ) where
   pick-length true p es = refl
   pick-length false p es = refl
 
-  start-by : (st : Stop) (es : List Entry) → tallyBy 0 0 st es ≡ onGiven length (limited i st es)
+  start-by : (st : Stop) (es : List Entry) → tallyBy 0 0 st es ≡ onGiven length (limited mostEntries i st es)
   unfolding tallyBy limited
   start-by (cutAt p) es = refl
-  start-by clean es = simp zero-add (pick-length (ltb mostEntries (length es)) (placeOfNext es) es)
+  start-by clean es = simp zero-add (pick-length (ltb mostEntries (length es)) (placeOfNext mostEntries es) es)
 
-  pub tally-start : (s : List ℕ) → tally 0 0 (from s 0) ≡ onGiven length (limited i (framing s .stop) (framing s .entries))
+  pub tally-start : (s : List ℕ) → tally 0 0 (from s 0) ≡ onGiven length (limited mostEntries i (framing s .stop) (framing s .entries))
   unfolding tally
   tally-start s = ap (tally 0 0) (from-start s) ∙ start-by (framing s .stop) (framing s .entries)
 
@@ -87,7 +87,7 @@ module _ (i : ℕ) where
   Only es absent = ⊥
   Only es (refused n p k) = Unit {0}
 
-  only-by : (st : Stop) (es : List Entry) → Only es (limited i st es)
+  only-by : (st : Stop) (es : List Entry) → Only es (limited mostEntries i st es)
   unfolding limited
   only-by (cutAt p) es = tt
   only-by clean es = pick-all (Only es) (ltb mostEntries (length es)) _ (given es) (λ e. tt) (λ e. refl)

@@ -116,7 +116,7 @@ fn refuse(fault: Fault, place: usize, input: u8) -> Counted
     })
 }
 
-// What the walk answers where it ends, n entries passed: 2 at a cut entry's place, then 3 at the place of the 129th, over.
+// What the walk answers where it ends, n entries passed: 2 at a cut entry's place, then 3 at the place of the first past the most, over.
 fn stopped(cut: bool, at: usize, n: usize, over: usize, input: u8) -> Counted
     ensures { λ r. ⌜ countedAnswer r ≡ pick cut (refused 2 at input) (pick (ltb mostEntries n) (refused 3 over input) (given n)) ⌝ }
 {

@@ -27,7 +27,7 @@ Within s absent = Unit {0}
 Within s (refused n p i) = Unit {0}
 
 module _ (i : ℕ) (s : List ℕ) where
-  limited-within : (st : Stop) → framing s .stop ≡ st → length s ≤ mostBytes → Within s (limited i st (framing s .entries))
+  limited-within : (st : Stop) → framing s .stop ≡ st → length s ≤ mostBytes → Within s (limited mostEntries i st (framing s .entries))
   unfolding limited
   limited-within (cutAt p) e h = tt
   limited-within clean e h =

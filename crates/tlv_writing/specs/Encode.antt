@@ -50,7 +50,10 @@ abbrev pub Shortest : Entry → Type 0
 Shortest e = e .start ≡ e .place + 4 → mostShort < length (e .value)
 
 -- entries as they are written, where they keep the sizes of a dataset: 10, "result over the sizes above"
+abbrev pub sizedWithin : (bytes most : ℕ) → List Content → Answer (List ℕ)
+sizedWithin bytes most cs =
+    pick (ltb bytes (length (encodeAll cs))) (refused 10 0 0) (pick (ltb most (length cs)) (refused 10 0 0) (given (encodeAll cs)))
+
+-- within today's sizes
 unfoldable pub sized : List Content → Answer (List ℕ)
-sized cs =
-    pick (ltb mostBytes (length (encodeAll cs))) (refused 10 0 0)
-    (pick (ltb mostEntries (length cs)) (refused 10 0 0) (given (encodeAll cs)))
+sized cs = sizedWithin mostBytes mostEntries cs

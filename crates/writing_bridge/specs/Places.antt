@@ -1,9 +1,10 @@
 -- How many rows the tables by value have, and how many of them are lent.
 -- Assumes nothing.
-use Prim.Native.Nat.{ℕ}
+use Prim.Native.Nat.{ℕ, _+_, _/_}
 use mathlib.Core.List.{List}
 use lib.ListN.{take}
 use lib.Dec.{ltb}
+use Rattle.refusal.specs.Sizes.{mostBytes, mostEntries}
 use Rattle.refusal.specs.Answer.{pick}
 use Rattle.route64.specs.declared.Route64.{Route64}
 use Rattle.network_bridge.specs.Parts.{places}
@@ -12,13 +13,13 @@ use Rattle.record_writing.specs.Lent.{Lent, lent}
 use Rattle.writing_bridge.specs.declared.Rows.{Rows}
 use Rattle.writing_bridge.specs.declared.Lengths.{Lengths}
 
--- one more than the "rows of 3" in 8,192 bytes
+-- one more than the "rows of 3" in as many bytes as a payload may have
 abbrev pub childPlaces : ℕ
-childPlaces = 2731
+childPlaces = mostBytes / 3 + 1
 
 -- one more than the entries of a payload
 abbrev pub listPlaces : ℕ
-listPlaces = 129
+listPlaces = mostEntries + 1
 
 -- n, or the most that there are
 abbrev pub atMost : (n most : ℕ) → ℕ

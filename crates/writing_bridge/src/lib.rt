@@ -20,9 +20,9 @@ ghost use Rattle.record_writing.specs.Written.{written};
 ghost use Rattle.writing_bridge.specs.Places.{childPlaces, listPlaces, atMost, lentBy};
 
 // The rows of a child table and the address lists: one more of each than a payload can have.
-pub const CHILD_PLACES: usize = 2731;
+pub const CHILD_PLACES: usize = refusal::MAX_BYTES / 3 + 1;
 
-pub const LIST_PLACES: usize = 129;
+pub const LIST_PLACES: usize = refusal::MAX_ENTRIES + 1;
 
 // The public constants, held to their numbers.
 fn constants() -> [usize; 2]

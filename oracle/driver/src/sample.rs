@@ -12,12 +12,12 @@ struct Band {
     most_characters: usize,
 }
 
-/// Lines that a size asks for, those about 255 bytes or 128 entries, and all others.
-const LONG: Band = Band { over: 2_000, most_characters: 1_757_000 };
-const MIDDLING: Band = Band { over: 300, most_characters: 185_000 };
+/// Lines about the most bytes, those about the most entries or 255 bytes, and all others.
+const LONG: Band = Band { over: 4_000, most_characters: 1_130_000 };
+const MIDDLING: Band = Band { over: 300, most_characters: 245_000 };
 const SHORT: Band = Band { over: 0, most_characters: 250_000 };
 
-const MOST_LONG_LINES: usize = 100;
+const MOST_LONG_LINES: usize = 60;
 
 /// Refusals of a value, which stand at its entry.
 const OF_VALUES: &[u32] = &[4, 5, 12];
@@ -36,7 +36,10 @@ type Kind = (usize, String);
 pub fn sample(sequence: &Sequence, wanted: usize) -> Vec<String> {
     let mut kinds = requests_by_kind(sequence, (CASES_A_LINE * wanted).max(LEAST_CASES));
     let mut chosen = choose(LONG, long_ones(&mut kinds), MOST_LONG_LINES);
-    chosen.extend(choose(MIDDLING, take_over(MIDDLING.over, &mut kinds), wanted / 3));
+    let mut middling = take_over(MIDDLING.over, &mut kinds);
+    // Those that nothing short shows come first.
+    middling.sort_by_key(|(kind, _)| !kinds[kind].is_empty());
+    chosen.extend(choose(MIDDLING, middling, wanted / 3));
     let left = wanted.saturating_sub(chosen.len());
     chosen.extend(choose(SHORT, take_over(SHORT.over, &mut kinds), left));
     chosen.sort_by_key(|(kind, request)| (kind.clone(), request.len()));
@@ -130,7 +133,8 @@ fn take_over(length: usize, kinds: &mut BTreeMap<Kind, Vec<String>>) -> Vec<(Kin
 }
 
 /// Takes the long requests out, those nearest to a size first, by their own length and their answer's, and first those
-/// kinds that nothing short shows, then those that stand just over a size, then just within it, then those that cost least.
+/// kinds that nothing short shows, of calls that read alike the first before all others; then those that stand just over a
+/// size, then just within it, then those that cost least.
 fn long_ones(kinds: &mut BTreeMap<Kind, Vec<String>>) -> Vec<(Kind, Vec<String>)> {
     let mut long = take_over(LONG.over, kinds);
     for (kind, requests) in &mut long {
@@ -139,12 +143,27 @@ fn long_ones(kinds: &mut BTreeMap<Kind, Vec<String>>) -> Vec<(Kind, Vec<String>)
             requests.reverse();
         }
     }
+    long.retain(|(_, requests)| !requests.is_empty());
+    let mut families = HashSet::new();
+    let is_first = |kind: &Kind| families.insert((family_of(kind), kind.1.clone()));
+    let first: HashSet<Kind> = long.iter().map(|(kind, _)| kind.clone()).filter(is_first).collect();
     long.sort_by_key(|(kind, requests)| {
         let shown_by_short = !kinds[kind].is_empty();
         let within_a_size = kind.1.starts_with("ok");
-        (shown_by_short, !is_over_a_size(kind), !within_a_size, requests.first().map(String::len))
+        (shown_by_short, !first.contains(kind), !is_over_a_size(kind), !within_a_size, requests[0].len())
     });
     long
+}
+
+/// The first of the calls that read their input as this one does: a dataset, a list, a hex text, or what the dot tells.
+fn family_of((place, _): &Kind) -> &'static str {
+    match calls::ALL.get(*place).map_or("", |call| call.name) {
+        "rewrite" | "raw" | "tohex" | "set" | "push" | "remove" | "flat" => "frame",
+        "wdelay" | "due" | "wdelay30" | "due30" => "frame",
+        "fold" => "ops",
+        "hexdata" | "hexflat" => "hexframe",
+        name => name.split('.').next().unwrap_or(name),
+    }
 }
 
 fn is_over_a_size((_, label): &Kind) -> bool {

@@ -13,7 +13,7 @@ use pairing::Answered;
 const PATTERN: u16 = 0xA5A5;
 
 // More than a child table can have rows.
-const PLACES: usize = 4096;
+const PLACES: usize = refusal::MAX_BYTES / 3 + 1;
 
 // Whether anything from a place on is no longer the pattern.
 fn changed(lent: &[u16], from: usize) -> bool {

@@ -3,7 +3,7 @@
 use super::texts::change_case;
 use crate::calls::GROUPS;
 use crate::random::Random;
-use crate::sizes::{MOST_BYTES, MOST_HEX_DIGITS};
+use crate::sizes::{MOST_BYTES, MOST_HEX_DIGITS, OLDER_BYTES};
 
 pub type Address = [u16; GROUPS];
 
@@ -128,7 +128,7 @@ pub fn text_edges() -> Vec<Vec<u8>> {
         let fields: Vec<String> = (1..=groups).map(|group| group.to_string()).collect();
         edges.extend((0..=groups).map(|place| with_gap(&fields[..place], &fields[place..]).into_bytes()));
     }
-    for length in [MOST_BYTES, MOST_BYTES + 1, MOST_HEX_DIGITS + 1] {
+    for length in [OLDER_BYTES + 1, MOST_BYTES, MOST_BYTES + 1, MOST_HEX_DIGITS + 1] {
         let parts: [(&[u8], u8); 4] = [(b"", b':'), (b"::", b'0'), (b"1:2:3:4:5:6:7:8", b' '), (b"::1", 0)];
         edges.extend(parts.map(|(start, fill)| filled(start, fill, length)));
     }

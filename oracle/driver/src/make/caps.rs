@@ -1,10 +1,12 @@
 //! Sizes of lent outputs for requests, at or about what the result needs; the need is asked of the answer itself.
 
+use super::about::some_most_bytes;
 use crate::answer::{Found, Reply, reply};
 use crate::random::Random;
+use crate::sizes::MOST_BYTES;
 
-/// More than any call writes.
-const MUCH: u64 = 100_000;
+/// More than any call writes: a nested listing has at most 7 characters for each byte, of Network Data.
+pub const MUCH: u64 = 8 * MOST_BYTES as u64;
 
 /// The words, and after them a random cap.
 pub fn with_cap(random: &mut Random, call: &str, words: &str) -> String {
@@ -29,7 +31,7 @@ fn random_cap(random: &mut Random, need: Option<u64>) -> u64 {
         13 => need + random.between(2, 1_000) as u64,
         14 => MUCH,
         _ if random.once_in(4) => u64::MAX,
-        _ => 9_999,
+        _ => some_most_bytes(random) as u64,
     }
 }
 

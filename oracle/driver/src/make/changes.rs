@@ -1,11 +1,12 @@
 //! Requests on change lists: `ops`, `run`, `fold`, `fold2`.
 
 use super::Maker;
+use super::about::{byte_edges, entries_before_edges, some_most_bytes, some_most_entries};
 use super::caps::{with_cap, with_each_edge_cap, with_edge_caps_in_turn};
 use super::datasets::{
     NO_SUCH_TYPE, TYPES, all_headers_long, dataset, dataset_edges, dataset_of_entries, entry, whole_dataset,
 };
-use super::edits::{FEW_SHAPED, SHAPED, shaped};
+use super::edits::{FEW_SHAPED, SHAPED, shaped, value_to_fill};
 use super::framing::words_of;
 use super::lists::{
     as_sets, list, list_edges, many_operations, removals, remove, set, shaped_list, shaped_lists, whole_list,
@@ -13,7 +14,7 @@ use super::lists::{
 use super::short::{Family, ZERO_OR_ONE_BYTE, string, strings, zero_or_one_byte};
 use crate::operations::{REMOVE_MARK, SET_MARK};
 use crate::random::Random;
-use crate::sizes::{MOST_BYTES, MOST_ENTRIES};
+use crate::sizes::{MOST_BYTES, MOST_ENTRIES, OLDER_ENTRIES};
 use crate::words::bytes_word;
 
 /// Both marks, types and lengths where the reading of operations forks, in as few bytes as show it.
@@ -66,20 +67,21 @@ pub const RUN: Maker = Maker {
 
 fn random_run(random: &mut Random) -> String {
     let words = match random.below(100) {
-        0..=1 => run_near_most_bytes(random),
-        2..=13 => run_near_most_entries(random),
+        0 => run_near_most_bytes(random),
+        1..=10 => run_near_most_entries(random),
         _ => two_words(&dataset(random), &list(random)),
     };
     with_cap(random, "run", &words)
 }
 
-/// A result of about 8,192 bytes: one type's value is set so that it fills the rest; or, where it is changed again, about
+/// A result of about the most bytes: one type's value is set so that it fills the rest; or, where it is changed again, about
 /// so many on the way.
 fn run_near_most_bytes(random: &mut Random) -> String {
-    let there = random.between(2_500, MOST_BYTES);
+    let most = some_most_bytes(random);
+    let there = random.between(most / 4, most);
     let dataset = whole_dataset(random, 3, there);
-    let length = MOST_BYTES + random.below(3) - there.min(MOST_BYTES - random.below(5));
-    let value = random.bytes(length);
+    let bytes = random.between(most - 1, most + 2);
+    let value = value_to_fill(random, NO_SUCH_TYPE, &dataset, bytes);
     let after = match random.below(4) {
         0 => remove(NO_SUCH_TYPE),
         1 => set(NO_SUCH_TYPE, b"A", false),
@@ -88,9 +90,10 @@ fn run_near_most_bytes(random: &mut Random) -> String {
     two_words(&dataset, &[set(NO_SUCH_TYPE, &value, false), after].concat())
 }
 
-/// A result of about 128 entries, or so many on the way.
+/// A result of about the most entries, or so many on the way.
 fn run_near_most_entries(random: &mut Random) -> String {
-    let entries = random.between(110, MOST_ENTRIES);
+    let most = some_most_entries(random);
+    let entries = random.between(most - 18, most);
     let operations = random.between(1, 24);
     let after = if random.once_in(2) { remove(random.pick(TYPES)) } else { Vec::new() };
     two_words(&dataset_of_entries(random, entries), &[many_operations(random, operations), after].concat())
@@ -132,7 +135,7 @@ fn faulty_lists(random: &mut Random) -> Vec<Vec<u8>> {
 /// Results at the sizes, also such as pass them on the way.
 fn run_size_edges(random: &mut Random) -> Vec<String> {
     let mut all_words = Vec::new();
-    for entries in MOST_ENTRIES - 2..=MOST_ENTRIES {
+    for entries in entries_before_edges() {
         let there = vec![0; 2 * entries];
         all_words.push(two_words(&there, &set(1, b"", false)));
         all_words.push(two_words(&there, &[set(1, b"", false), set(2, b"", true)].concat()));
@@ -140,12 +143,12 @@ fn run_size_edges(random: &mut Random) -> Vec<String> {
         all_words.push(two_words(&there, &[set(1, b"", false), remove(0)].concat()));
         all_words.push(two_words(&there, &set(0, b"", false)));
     }
-    for bytes in MOST_BYTES - 2..=MOST_BYTES + 2 {
+    for bytes in byte_edges() {
         let value = random.bytes(bytes - 6);
         let short = random.bytes(100);
         all_words.push(two_words(&[7, 0], &set(3, &value, false)));
         all_words.push(two_words(&entry(3, &value[..bytes - 106], false), &set(7, &short, false)));
-        let back = [set(7, &random.bytes(4_200), false), set(7, &short, false)].concat();
+        let back = [set(7, &random.bytes(bytes / 2), false), set(7, &short, false)].concat();
         all_words.push(two_words(&entry(3, &value[..bytes - 106], false), &back));
     }
     // Each header shrinks by two bytes, so there is room for a value, though not for an entry more.
@@ -176,10 +179,12 @@ pub const FOLD: Maker = Maker {
 
 fn fold_edges(random: &mut Random) -> Vec<String> {
     let mut lists = list_edges(random);
-    // Of 64 bytes each, and two more for the mark.
-    lists.push(as_sets(&all_headers_long(random)[..64 * (MOST_BYTES / 66)]));
-    lists.push(removals((128..=255).rev()));
-    lists.push((0..MOST_ENTRIES).flat_map(|number| set(255 - number as u8, &[number as u8], true)).collect());
+    // As many sets of such entries as have room beside their marks.
+    let size = MOST_BYTES / MOST_ENTRIES;
+    let sets = MOST_BYTES / (SET_MARK.len() + size);
+    lists.push(as_sets(&all_headers_long(random)[..size * sets]));
+    // Each type once.
+    lists.push((0..=u8::MAX).flat_map(|number| set(255 - number, &[number], true)).collect());
     let mut edges = with_edge_caps_in_turn("fold", &words_of(&lists));
     let longest = bytes_word(&set(3, &random.bytes(MOST_BYTES - 6), false));
     edges.extend(with_each_edge_cap("fold", &longest));
@@ -203,12 +208,14 @@ pub const FOLD2: Maker = Maker {
 fn random_fold2(random: &mut Random) -> String {
     let words = match random.below(100) {
         0 => {
-            let first = random.between(100, MOST_BYTES);
-            let second = MOST_BYTES + random.below(7) - first.min(MOST_BYTES - 40);
-            two_words(&whole_list(random, 2, first), &whole_list(random, 2, second.min(MOST_BYTES)))
+            let most = some_most_bytes(random);
+            let first = random.between(100, most);
+            let second = most + random.below(7) - first.min(most - 40);
+            two_words(&whole_list(random, 2, first), &whole_list(random, 2, second.min(most)))
         }
-        1..=12 => {
-            let (first, second) = (random.between(90, MOST_ENTRIES), random.between(30, MOST_ENTRIES));
+        1..=8 => {
+            let most = some_most_entries(random);
+            let (first, second) = (random.between(most * 2 / 3, most), random.between(most / 4, most));
             two_words(&many_operations(random, first), &many_operations(random, second))
         }
         _ => two_words(&list(random), &list(random)),
@@ -238,24 +245,25 @@ fn fold2_edges(random: &mut Random) -> Vec<String> {
 /// Folds at the sizes, of lists that together are within them or over them.
 fn fold2_size_edges(random: &mut Random) -> Vec<String> {
     let mut all_words = Vec::new();
-    let most = MOST_ENTRIES as u8;
-    for types in most - 1..=most + 2 {
-        all_words.push(two_words(&removals(0..100), &removals(100..types)));
-        all_words.push(two_words(&removals(0..most), &removals(types.saturating_sub(most)..types)));
-        let sets = (100..types).flat_map(|ty| set(ty, b"", false)).collect::<Vec<u8>>();
+    // There are no more types than a list may have operations, so a fold never has too many.
+    for types in [OLDER_ENTRIES, OLDER_ENTRIES + 1, MOST_ENTRIES - 1, MOST_ENTRIES] {
+        let last = (types - 1) as u8;
+        all_words.push(two_words(&removals(0..100), &removals(100..=last)));
+        all_words.push(two_words(&removals(0..=last), &removals((0..=last).rev())));
+        all_words.push(two_words(&removals(0..=last), &removals(255 - last..=255)));
+        let sets = (100..=last).flat_map(|ty| set(ty, b"", false)).collect::<Vec<u8>>();
         all_words.push(two_words(&removals(0..100), &sets));
     }
-    for bytes in MOST_BYTES - 2..=MOST_BYTES + 2 {
-        let value = random.bytes(MOST_BYTES - 6);
-        let second = bytes - 4_000;
-        all_words.push(two_words(&set(3, &value[..4_000 - 6], false), &set(7, &value[..second - 6], false)));
-        all_words.push(two_words(&set(3, &value, false), &set(3, &value[..bytes + 8 - MOST_BYTES], false)));
-        all_words.push(two_words(&set(3, &value[..bytes - 9], false), &remove(7)));
+    for bytes in byte_edges() {
+        let value = random.bytes(bytes - 9);
+        let half = bytes / 2;
+        all_words.push(two_words(&set(3, &value[..half - 6], false), &set(7, &value[..bytes - half - 6], false)));
+        all_words.push(two_words(&set(3, &value, false), &remove(7)));
     }
     let longest = set(3, &random.bytes(MOST_BYTES - 6), false);
     all_words.push(two_words(&longest, &longest));
     all_words.push(two_words(&longest, &remove(3)));
-    all_words.push(two_words(&removals(0..most), &removals(0..most)));
+    all_words.push(two_words(&longest, &set(3, b"A", false)));
     // One list's last operation is cut, and the other's first bytes would complete it.
     all_words.push(two_words(&[0x53], &[0x45, 0, 0]));
     all_words.push(two_words(&[0x52, 0x4d], &[0]));

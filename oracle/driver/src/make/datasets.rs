@@ -1,5 +1,6 @@
 //! Datasets for requests: random ones, whole or damaged, and those at each boundary.
 
+use super::about::{FULLEST, byte_edges, entry_edges, some_most_bytes, some_most_entries};
 use crate::random::Random;
 use crate::sizes::{MOST_BYTES, MOST_ENTRIES};
 
@@ -24,11 +25,12 @@ pub fn entry(ty: u8, value: &[u8], long_header: bool) -> Vec<u8> {
     out
 }
 
-/// A random dataset: most are small and whole, some damaged, some of about 128 entries, few of about 8,192 bytes.
+/// A random dataset: most are small and whole, some damaged, some of about the most entries, few of about
+/// the most bytes.
 pub fn dataset(random: &mut Random) -> Vec<u8> {
-    let whole = if random.once_in(1_000) {
+    let whole = if random.once_in(1_500) {
         of_about_most_bytes(random, whole_dataset)
-    } else if random.once_in(12) {
+    } else if random.once_in(16) {
         of_about_most_entries(random, dataset_of_entries)
     } else if random.once_in(60) {
         let entries = random.between(1, 3);
@@ -46,7 +48,7 @@ type OfBytes = fn(&mut Random, usize, usize) -> Vec<u8>;
 /// Makes one of so many entries or operations.
 type OfEntries = fn(&mut Random, usize) -> Vec<u8>;
 
-/// One of each size: `long` in 1,000 are of about 8,192 bytes, 60 of about 128 entries, all others small.
+/// One of each size: `long` in 1,000 are of about the most bytes, 45 of about the most entries, all others small.
 pub fn of_each_size(
     random: &mut Random,
     long: usize,
@@ -56,7 +58,7 @@ pub fn of_each_size(
 ) -> Vec<u8> {
     match random.below(1_000) {
         number if number < long => of_about_most_bytes(random, of_bytes),
-        number if number < long + 60 => of_about_most_entries(random, of_entries),
+        number if number < long + 45 => of_about_most_entries(random, of_entries),
         _ => small(random),
     }
 }
@@ -72,9 +74,9 @@ fn of_about_most_entries(random: &mut Random, of_entries: OfEntries) -> Vec<u8> 
     of_entries(random, entries)
 }
 
-/// A number of entries of about 128, more of them over than not.
+/// A number of entries of about the most, more of them over than not.
 pub fn near_most_entries(random: &mut Random) -> usize {
-    random.pick(&[127, 128, 129, 129, 129, 130, 130, 131])
+    some_most_entries(random) - 1 + random.pick(&[0, 1, 2, 2, 2, 3, 3, 4])
 }
 
 /// So many entries, most of them with values of few bytes or none.
@@ -83,12 +85,13 @@ pub fn dataset_of_entries(random: &mut Random, entries: usize) -> Vec<u8> {
     whole_dataset(random, entries, 2 * entries + spare)
 }
 
-/// A number of bytes of about 8,192, in most cases.
+/// A number of bytes of about the most, in most cases.
 pub fn near_most_bytes(random: &mut Random) -> usize {
+    let most = some_most_bytes(random);
     match random.below(4) {
-        0 => random.between(2_000, 9_000),
-        1 => MOST_BYTES,
-        _ => random.between(MOST_BYTES - 2, MOST_BYTES + 2),
+        0 => random.between(most / 4, most + most / 10),
+        1 => most,
+        _ => random.between(most - 2, most + 2),
     }
 }
 
@@ -156,18 +159,20 @@ pub fn damaged(random: &mut Random, mut bytes: Vec<u8>) -> Vec<u8> {
 /// Datasets at each boundary of framing and of the sizes.
 pub fn dataset_edges(random: &mut Random) -> Vec<Vec<u8>> {
     let mut edges = vec![vec![], random.bytes(1)];
-    for bytes in (2..=4).chain(HEADER_EDGES).chain(MOST_BYTES - 2..=MOST_BYTES + 2) {
+    for bytes in (2..=4).chain(HEADER_EDGES).chain(byte_edges()) {
         let entries = random.between(1, (bytes / 2).min(4));
         edges.push(whole_dataset(random, entries, bytes));
         edges.push(without_last(whole_dataset(random, entries, bytes + 1)));
     }
-    for entries in MOST_ENTRIES - 1..=MOST_ENTRIES + 2 {
+    for entries in entry_edges() {
         let sparse = 2 * entries + 5;
         edges.push(whole_dataset(random, entries, 2 * entries));
         edges.push(whole_dataset(random, entries, sparse));
         edges.push(without_last(whole_dataset(random, entries, sparse)));
         edges.push([whole_dataset(random, entries, sparse), vec![3]].concat());
-        edges.push(whole_dataset(random, entries, MOST_BYTES));
+    }
+    for (entries, bytes) in FULLEST {
+        edges.push(whole_dataset(random, entries, bytes));
     }
     edges.push(without_last(whole_dataset(random, MOST_ENTRIES + 1, MOST_BYTES + 1)));
     edges.push(vec![0; MOST_BYTES]);

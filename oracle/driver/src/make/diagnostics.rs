@@ -1,6 +1,7 @@
 //! Requests on diagnostic values and payloads: `d.TYPE`, `nd`, `diag`, `timeout`.
 
 use super::Maker;
+use super::about::{byte_edges, some_most_bytes};
 use super::caps::{with_each_edge_tables, with_edge_tables_in_turn, with_tables};
 use super::datasets::{damaged, entry};
 use super::diag_values::{CHILD_ADDRESSES, CHILD_TABLE, common_length, value, value_edges, value_of_size};
@@ -10,7 +11,6 @@ use super::payloads::{payload, payload_edges};
 use super::short::{Family, ZERO_OR_ONE_BYTE, in_order, lone_bit, lone_bits, string, strings, zero_or_one_byte};
 use crate::random::Random;
 use crate::rules::NETWORK_DATA;
-use crate::sizes::MOST_BYTES;
 use crate::words::bytes_word;
 
 /// The maker for bare values of a type. Each bit of one that fits is tried, and all values of its first byte.
@@ -40,8 +40,9 @@ fn with_first(length: usize, first: u8) -> Vec<u8> {
 }
 
 fn random_bare<const TY: u8>(random: &mut Random) -> String {
-    if random.once_in(300) {
-        let bytes = random.between(MOST_BYTES - 1, MOST_BYTES + 3);
+    if random.once_in(500) {
+        let most = some_most_bytes(random);
+        let bytes = random.between(most - 1, most + 3);
         return bytes_word(&value_of_size(random, TY, bytes));
     }
     bytes_word(&value(random, TY, 4))
@@ -49,7 +50,7 @@ fn random_bare<const TY: u8>(random: &mut Random) -> String {
 
 fn bare_edges<const TY: u8>(random: &mut Random) -> Vec<String> {
     let mut edges = value_edges(random, TY);
-    for bytes in MOST_BYTES - 2..=MOST_BYTES + 2 {
+    for bytes in byte_edges() {
         edges.push(value_of_size(random, TY, bytes));
     }
     words_of(&edges)
@@ -131,8 +132,9 @@ pub const ND: Maker = Maker {
 };
 
 fn random_nd(random: &mut Random) -> String {
-    let whole = if random.once_in(400) {
-        let bytes = random.between(MOST_BYTES - 1, MOST_BYTES + 3);
+    let whole = if random.once_in(600) {
+        let most = some_most_bytes(random);
+        let bytes = random.between(most - 1, most + 3);
         value_of_size(random, NETWORK_DATA, bytes)
     } else {
         value(random, NETWORK_DATA, 3)

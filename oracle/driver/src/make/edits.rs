@@ -3,6 +3,7 @@
 use meshcop::dataset::Dataset;
 
 use super::Maker;
+use super::about::{byte_edges, entries_before_edges, some_most_bytes, some_most_entries};
 use super::caps::{with_cap, with_each_edge_cap, with_edge_caps_in_turn};
 use super::datasets::{
     HEADER_EDGES, NO_SUCH_TYPE, TYPES, all_headers_long, dataset_edges, dataset_of_entries, entry, whole_dataset,
@@ -11,7 +12,7 @@ use super::framing::with_types;
 use super::short::{Family, string, strings};
 use super::typed::{typed_dataset, value};
 use crate::random::Random;
-use crate::sizes::{MOST_BYTES, MOST_ENTRIES};
+use crate::sizes::{MOST_BYTES, MOST_ENTRIES, OLDER_BYTES, OLDER_ENTRIES};
 use crate::words::bytes_word;
 
 /// Entries that an edit tells apart, by a letter each, and all datasets of up to three of them: of the type or of
@@ -71,8 +72,8 @@ fn set_words(ty: u8, value: &[u8], dataset: &[u8]) -> String {
 fn random_set(random: &mut Random, call: &str) -> String {
     let words = match random.below(600) {
         0 => huge_set(random),
-        1..=20 => set_near_most_bytes(random),
-        21..=120 => set_near_most_entries(random),
+        1..=10 => set_near_most_bytes(random),
+        11..=90 => set_near_most_entries(random),
         _ => {
             let ty = some_type(random);
             let value = value(random, ty);
@@ -93,23 +94,24 @@ fn huge_set(random: &mut Random) -> String {
     set_words(ty, &random.bytes(length), &typed_dataset(random, ty))
 }
 
-/// A result of about 8,192 bytes: most of them are set, or most of them were there.
+/// A result of about the most bytes: most of them are set, or most of them were there.
 fn set_near_most_bytes(random: &mut Random) -> String {
     let ty = some_type(random);
+    let most = some_most_bytes(random);
     let dataset = if random.once_in(2) {
         typed_dataset(random, ty)
     } else {
         let entries = random.between(1, MOST_ENTRIES);
-        let bytes = random.between(MOST_BYTES - 300, MOST_BYTES);
+        let bytes = random.between(most - 300, most);
         whole_dataset(random, entries, bytes)
     };
-    let bytes = random.between(MOST_BYTES - 1, MOST_BYTES + 2);
+    let bytes = random.between(most - 1, most + 2);
     let value = value_to_fill(random, ty, &dataset, bytes);
     set_words(ty, &value, &dataset)
 }
 
 /// A value that, set in the dataset, makes it so many bytes long, as far as there is one.
-fn value_to_fill(random: &mut Random, ty: u8, dataset: &[u8], bytes: usize) -> Vec<u8> {
+pub fn value_to_fill(random: &mut Random, ty: u8, dataset: &[u8], bytes: usize) -> Vec<u8> {
     let mut others = Dataset::from_bytes(dataset).unwrap_or_default();
     others.remove_all(ty);
     let taken = others.to_bytes().map_or(0, |written| written.len());
@@ -118,9 +120,9 @@ fn value_to_fill(random: &mut Random, ty: u8, dataset: &[u8], bytes: usize) -> V
     random.bytes(room.saturating_sub(header))
 }
 
-/// A result of about 128 entries; most often the type is a new one.
+/// A result of about the most entries; most often the type is a new one.
 fn set_near_most_entries(random: &mut Random) -> String {
-    let entries = random.pick(&[126, 127, 127, 128, 128, 128, 128, 129]);
+    let entries = some_most_entries(random) - 2 + random.pick(&[0, 1, 1, 2, 2, 2, 2, 3]);
     let dataset = dataset_of_entries(random, entries);
     let ty = if random.once_in(4) { random.pick(TYPES) } else { random.byte() };
     let value = value(random, ty);
@@ -144,7 +146,8 @@ fn set_edges(random: &mut Random, call: &str) -> Vec<String> {
 /// Values at each length where a header, the result's size or the writing of an entry ends, also in faulty datasets.
 fn set_value_edges(random: &mut Random) -> Vec<String> {
     let mut all_words = Vec::new();
-    for length in (0..=2).chain(HEADER_EDGES).chain(MOST_BYTES - 5..=MOST_BYTES + 1).chain([65_535, 65_536]) {
+    let long = [OLDER_BYTES - 4, OLDER_BYTES - 3, MOST_BYTES, MOST_BYTES + 1, 65_535, 65_536];
+    for length in (0..=2).chain(HEADER_EDGES).chain(MOST_BYTES - 5..=MOST_BYTES - 3).chain(long) {
         all_words.push(set_words(3, &random.bytes(length), &[]));
     }
     let too_many = dataset_of_entries(random, MOST_ENTRIES + 1);
@@ -160,7 +163,7 @@ fn set_value_edges(random: &mut Random) -> Vec<String> {
 /// Results at the sizes, where the type is new, where it was there once, and where it was all there was.
 fn set_size_edges(random: &mut Random) -> Vec<String> {
     let mut all_words = Vec::new();
-    for entries in MOST_ENTRIES - 2..=MOST_ENTRIES {
+    for entries in entries_before_edges() {
         let others = dataset_of_entries(random, entries);
         all_words.push(set_words(NO_SUCH_TYPE, &[], &others));
         all_words.push(set_words(NO_SUCH_TYPE, b"A", &others));
@@ -168,8 +171,8 @@ fn set_size_edges(random: &mut Random) -> Vec<String> {
         all_words.push(set_words(NO_SUCH_TYPE, b"A", &once));
         all_words.push(set_words(0, &[], &vec![0; 2 * entries]));
     }
-    for bytes in MOST_BYTES - 2..=MOST_BYTES + 2 {
-        let long = whole_dataset(random, 4, MOST_BYTES - 5);
+    for bytes in byte_edges() {
+        let long = whole_dataset(random, 4, bytes - 5);
         for dataset in [long, vec![3, 255, 0, 1, 65], vec![]] {
             let value = value_to_fill(random, NO_SUCH_TYPE, &dataset, bytes);
             all_words.push(set_words(NO_SUCH_TYPE, &value, &dataset));
@@ -202,7 +205,7 @@ pub const REMOVE: Maker = Maker {
 
 fn remove_edges(random: &mut Random) -> Vec<String> {
     let mut all_words = with_types(&dataset_edges(random));
-    for entries in [1, MOST_ENTRIES, MOST_ENTRIES + 1] {
+    for entries in [1, OLDER_ENTRIES + 1, MOST_ENTRIES, MOST_ENTRIES + 1] {
         all_words.push(format!("0 {}", bytes_word(&vec![0; 2 * entries])));
     }
     let mut edges = with_edge_caps_in_turn("remove", &all_words);

@@ -1,5 +1,6 @@
 //! Fields that cannot be written, for requests: for each of 13, 12, 15 and 10, one that is past its boundary or about it.
 
+use super::about::{some_most_bytes, some_most_entries};
 use super::caps::need_of_fields;
 use super::datasets::entry;
 use super::diag_values::{CHILD_ADDRESSES, CHILD_TABLE};
@@ -7,7 +8,6 @@ use super::fields::{Fields, Rows, Tables, decoded_words, good_text, prefix_of_si
 use super::network::{many_prefixes, many_rows};
 use crate::random::Random;
 use crate::rules::NETWORK_DATA;
-use crate::sizes::{MOST_BYTES, MOST_ENTRIES};
 use crate::words::bytes_word;
 
 /// A cell of a row: its place, the greatest number that its bits hold, and the greatest that a request can say.
@@ -24,10 +24,10 @@ type Field = (u8, String);
 /// One to three faults, of any refusal but 13, which only few have, since its values are long.
 pub fn spoil_fields(random: &mut Random, fields: &mut Fields) {
     for _ in 0..random.between(1, 3) {
-        let (ty, text) = match random.below(20) {
-            0..=11 => misfit(random),
-            12..=15 => (NETWORK_DATA, about_most_rows(random)),
-            16..=18 => (CHILD_ADDRESSES, about_most_entries(random, fields)),
+        let (ty, text) = match random.below(40) {
+            0..=25 => misfit(random),
+            26..=33 => (NETWORK_DATA, about_most_rows(random)),
+            34..=38 => (CHILD_ADDRESSES, about_most_entries(random, fields)),
             _ => about_most_bytes(random, fields),
         };
         fields.insert(ty, text);
@@ -250,10 +250,10 @@ fn about_most_rows(random: &mut Random) -> String {
     }
 }
 
-/// 10: address lists that make about 128 entries with the other fields; in some cases one of them does not fit.
+/// 10: address lists that make about the most entries with the other fields; in some cases one of them does not fit.
 fn about_most_entries(random: &mut Random, fields: &Fields) -> String {
     let others = fields.keys().filter(|ty| **ty != CHILD_ADDRESSES).count();
-    let count = MOST_ENTRIES + random.below(4) - others;
+    let count = some_most_entries(random) + random.below(4) - others;
     let one = |_| {
         let rloc16 = random.next() as u16;
         format!("{rloc16}:{}:-", rloc16 % 512)
@@ -266,13 +266,14 @@ fn about_most_entries(random: &mut Random, fields: &Fields) -> String {
     lists.join("/")
 }
 
-/// 10: bytes that fill the payload to about 8,192, of a type of any length.
+/// 10: bytes that fill the payload to about the most, of a type of any length.
 fn about_most_bytes(random: &mut Random, fields: &Fields) -> Field {
     let ty = random.pick(&[0, 17, 18]);
     let mut others = fields.clone();
     others.remove(&ty);
     let taken = need_of_fields(&words_of_fields(&others)).unwrap_or(0) as usize;
-    let size = random.between(MOST_BYTES - 1, MOST_BYTES + 2);
+    let most = some_most_bytes(random);
+    let size = random.between(most - 1, most + 2);
     let value = random.bytes(size.saturating_sub(4 + taken));
     (ty, bytes_word(&value))
 }

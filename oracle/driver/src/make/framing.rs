@@ -3,13 +3,14 @@
 use meshcop::tlv::TlvSet;
 
 use super::Maker;
+use super::about::some_most_bytes;
 use super::caps::{with_cap, with_each_edge_cap, with_edge_caps_in_turn};
 use super::damage::{NO_BYTES, NO_NUMBERS, NUMBERS};
 use super::datasets::{HEADER_EDGES, NO_SUCH_TYPE, TYPES, dataset, dataset_edges, entry, whole_dataset, without_last};
 use super::short::{Family, TWO_BYTES, ZERO_OR_ONE_BYTE, string, strings, two_bytes, zero_or_one_byte};
 use crate::answer::LONGEST_LINE;
 use crate::random::Random;
-use crate::sizes::MOST_BYTES;
+use crate::sizes::{MOST_BYTES, OLDER_BYTES};
 use crate::words::bytes_word;
 
 /// The lengths where framing forks, in as few bytes as show it.
@@ -105,7 +106,7 @@ pub const ENTRY: Maker = Maker {
 fn random_entry(random: &mut Random) -> String {
     let length = match random.below(3_000) {
         0 => random.between(65_530, 65_540),
-        1 => random.between(8_000, 8_400),
+        1 => some_most_bytes(random) - 200 + random.below(400),
         2..=100 => random.between(250, 260),
         _ => random.below(20),
     };
@@ -115,7 +116,7 @@ fn random_entry(random: &mut Random) -> String {
 
 fn entry_edges(random: &mut Random) -> Vec<String> {
     let mut edges = Vec::new();
-    for length in (0..=4).chain(HEADER_EDGES).chain([8_192, 65_534, 65_535, 65_536, 65_537]) {
+    for length in (0..=4).chain(HEADER_EDGES).chain([OLDER_BYTES, MOST_BYTES, 65_534, 65_535, 65_536, 65_537]) {
         let words = format!("{} {}", random.byte(), bytes_word(&random.bytes(length)));
         edges.extend(with_each_edge_cap("entry", &words));
     }
@@ -134,7 +135,8 @@ pub const HEADER: Maker = Maker {
         with_cap(random, "header", &words)
     },
     edges: |random| {
-        let lengths = (0..=2).chain(HEADER_EDGES).chain([8_192, 65_534, 65_535, 65_536, 65_537, usize::MAX]);
+        let long = [OLDER_BYTES, MOST_BYTES, 65_534, 65_535, 65_536, 65_537, usize::MAX];
+        let lengths = (0..=2).chain(HEADER_EDGES).chain(long);
         let words = lengths.map(|length| format!("{} {length}", random.byte())).collect::<Vec<_>>();
         words.iter().flat_map(|words| with_each_edge_cap("header", words)).collect()
     },

@@ -6,9 +6,9 @@ use super::caps::{with_cap, with_each_edge_cap, with_edge_caps_in_turn};
 use super::datasets::{dataset, dataset_edges, whole_dataset};
 use super::framing::{FORKED, forked, words_of};
 use super::short::{Family, ZERO_OR_ONE_BYTE, string, strings, zero_or_one_byte};
-use super::texts::{damaged_hex_text, dataset_text_edges, digits, hex_text, longest_digit_counts};
+use super::texts::{damaged_hex_text, dataset_text_edges, digits, hex_text};
 use crate::random::Random;
-use crate::sizes::{MOST_BYTES, MOST_ENTRIES};
+use crate::sizes::{MOST_BYTES, MOST_ENTRIES, MOST_HEX_DIGITS};
 use crate::words::bytes_word;
 
 pub const FLAT: Maker = Maker {
@@ -77,13 +77,15 @@ pub const PROG: Maker = Maker {
     ],
 };
 
-/// Each text with one end, in turn, and the longest ones with every end, since the drop comes before the size.
+/// Each text with one newline or, every other, with one of the ends in turn; and the longest ones with every end, since the
+/// drop comes before the size.
 fn prog_edges(random: &mut Random) -> Vec<String> {
     let mut inputs = Vec::new();
     for (number, text) in dataset_text_edges(random).iter().enumerate() {
-        inputs.push([text, ENDS[number % ENDS.len()]].concat());
+        let end = if number % 2 == 0 { ENDS[0] } else { ENDS[number / 2 % ENDS.len()] };
+        inputs.push([text, end].concat());
     }
-    for count in longest_digit_counts() {
+    for count in MOST_HEX_DIGITS - 1..=MOST_HEX_DIGITS + 1 {
         let text = digits(random, count);
         inputs.extend(ENDS.iter().map(|end| [&text, *end].concat()));
     }

@@ -1,5 +1,6 @@
 //! Change lists for requests: random ones, whole or damaged, and those at each boundary.
 
+use super::about::{FULLEST, byte_edges, entry_edges};
 use super::datasets::{HEADER_EDGES, TYPES, damaged, entry, of_each_size, whole_dataset, without_last};
 use super::short::{string, strings};
 use crate::framed;
@@ -39,9 +40,10 @@ pub fn shaped_list(number: usize) -> Vec<u8> {
     string(SHAPES, 0, number).into_iter().flat_map(shape).collect()
 }
 
-/// A random list: most are small and whole, some damaged, some of about 128 operations, few of about 8,192 bytes.
+/// A random list: most are small and whole, some damaged, some of about the most operations, few of about the
+/// most bytes.
 pub fn list(random: &mut Random) -> Vec<u8> {
-    let whole = of_each_size(random, 6, whole_list, many_operations, small_list);
+    let whole = of_each_size(random, 4, whole_list, many_operations, small_list);
     damaged(random, whole)
 }
 
@@ -97,20 +99,23 @@ pub fn as_sets(dataset: &[u8]) -> Vec<u8> {
 /// Lists at each boundary of their operations and of the sizes.
 pub fn list_edges(random: &mut Random) -> Vec<Vec<u8>> {
     let mut edges = vec![vec![], random.bytes(1)];
-    for bytes in MOST_BYTES - 2..=MOST_BYTES + 2 {
+    for bytes in byte_edges() {
         let sets = random.between(1, 4);
         edges.push(whole_list(random, sets, bytes));
         edges.push(without_last(whole_list(random, sets, bytes + 1)));
     }
-    for operations in MOST_ENTRIES - 1..=MOST_ENTRIES + 2 {
+    for operations in entry_edges() {
         let whole = many_operations(random, operations);
         edges.push(removals((0..operations).map(|_| 3)));
-        edges.push(removals((0..operations).map(|ty| 255 - ty as u8)));
+        // Descending; past the last of the types from the first on again.
+        edges.push(removals((0..operations).map(|number| !(number as u8))));
         edges.push(without_last(whole.clone()));
         edges.push([&whole[..], &[0x53]].concat());
         edges.push([&whole[..], &[0, 0, 0]].concat());
         edges.push(whole);
-        edges.push(whole_list(random, operations, MOST_BYTES));
+    }
+    for (operations, bytes) in FULLEST {
+        edges.push(whole_list(random, operations, bytes));
     }
     edges.push(without_last(whole_list(random, MOST_ENTRIES + 1, MOST_BYTES + 1)));
     edges.extend(cut_edges(random));

@@ -1,5 +1,6 @@
 //! Channel masks for requests: whole ones, and such whose last item is cut.
 
+use super::about::entry_edges;
 use crate::random::Random;
 
 /// The most bytes of one item: page, length, and what a length byte can say.
@@ -77,7 +78,7 @@ pub fn mask_edges(random: &mut Random) -> Vec<Vec<u8>> {
         edges.push([&whole[..], &[0]].concat());
         edges.push(whole);
     }
-    for items in [127, 128, 129, 200] {
+    for items in entry_edges() {
         edges.push(vec![0; 2 * items]);
         edges.push(vec![0; 2 * items + 1]);
     }

@@ -8,6 +8,7 @@ use meshcop::dataset::{
 use crate::random::Random;
 use crate::words::bytes_word;
 
+mod about;
 mod address_texts;
 mod addresses;
 mod base16;

@@ -137,9 +137,10 @@ fn random_nested(random: &mut Random) -> String {
     with_cap(random, "nested", &bytes_word(&payload))
 }
 
-/// A payload that is framed, most of it Network Data: most are small, some of about 128 entries, few of about 8,192 bytes.
+/// A payload that is framed, most of it Network Data: most are small, some of about the most entries, few of
+/// about the most bytes.
 fn payload_of_lists(random: &mut Random) -> Vec<u8> {
-    of_each_size(random, 4, lists_of_bytes, lists_of_entries, few_lists)
+    of_each_size(random, 3, lists_of_bytes, lists_of_entries, few_lists)
 }
 
 fn few_lists(random: &mut Random) -> Vec<u8> {

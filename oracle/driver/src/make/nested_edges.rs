@@ -1,5 +1,6 @@
 //! Requests on the nested listing around each boundary.
 
+use super::about::{byte_edges, entry_edges};
 use super::caps::{with_each_edge_cap, with_edge_caps_in_turn};
 use super::datasets::{dataset_edges, entry, without_last};
 use super::framing::words_of;
@@ -81,7 +82,7 @@ fn two_values() -> Vec<Vec<u8>> {
 /// Entries at their number, and a cut one after them, which comes first.
 fn entry_count_edges() -> Vec<Vec<u8>> {
     let mut edges = Vec::new();
-    for entries in MOST_ENTRIES - 1..=MOST_ENTRIES + 2 {
+    for entries in entry_edges() {
         for value in [&[][..], &[3], DENSEST, &[3, 4, 0, 0, 6, 0]] {
             let whole = opened(value).repeat(entries);
             edges.push([&whole[..], &[NETWORK_DATA]].concat());
@@ -94,7 +95,7 @@ fn entry_count_edges() -> Vec<Vec<u8>> {
 /// Payloads at the size, whole and cut: of much text, of as many entries as may be, and of much inside prefixes.
 fn byte_count_edges() -> Vec<Vec<u8>> {
     let mut edges = Vec::new();
-    for bytes in MOST_BYTES - 1..=MOST_BYTES + 1 {
+    for bytes in byte_edges() {
         edges.push(densest(bytes));
         edges.push(without_last(densest(bytes + 1)));
     }

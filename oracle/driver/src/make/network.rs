@@ -1,8 +1,9 @@
 //! Network Data values for requests: whole ones, such with a fault inside, and those at each boundary.
 
+use super::about::byte_edges;
 use crate::random::Random;
 use crate::rules::network_tlvs::{BORDER_ROUTER, CONTEXT, HAS_ROUTE, PREFIX};
-use crate::sizes::{MOST_BYTES, NETWORK_DATA};
+use crate::sizes::NETWORK_DATA;
 
 const HAS_ROUTE_ROW: usize = 3;
 const BORDER_ROUTER_ROW: usize = 4;
@@ -273,7 +274,7 @@ pub fn network_data_of_size(random: &mut Random, bytes: usize) -> Vec<u8> {
 /// Bare values at the size.
 pub fn long_network_data(random: &mut Random) -> Vec<Vec<u8>> {
     let mut edges = Vec::new();
-    for bytes in MOST_BYTES - 2..=MOST_BYTES + 2 {
+    for bytes in byte_edges() {
         edges.push(network_data_of_size(random, bytes));
         edges.push([network_data_of_size(random, bytes - 1), vec![0]].concat());
         edges.push([bare_prefix(&item(HAS_ROUTE, &[0])), network_data_of_size(random, bytes - 7)].concat());

@@ -1,6 +1,7 @@
 //! Requests on child pairing: `pair`.
 
 use super::Maker;
+use super::about::some_most_entries;
 use super::caps::{with_cap, with_each_edge_cap, with_edge_caps_in_turn};
 use super::datasets::{damaged, entry};
 use super::diag_values::{CHILD_ADDRESSES, CHILD_TABLE, MAC_ADDRESS, TYPES, fitting, misfit};
@@ -8,7 +9,7 @@ use super::framing::words_of;
 use super::payloads::{payload, payload_edges, payload_of_entries};
 use super::short::{Family, ZERO_OR_ONE_BYTE, string, strings, zero_or_one_byte};
 use crate::random::Random;
-use crate::sizes::{MOST_BYTES, MOST_ENTRIES};
+use crate::sizes::{MOST_BYTES, MOST_ENTRIES, OLDER_ENTRIES};
 use crate::words::bytes_word;
 
 /// The parent of most payloads and of most lists.
@@ -135,7 +136,8 @@ fn random_payload(random: &mut Random) -> Vec<u8> {
 fn crowded_payload(random: &mut Random) -> Vec<u8> {
     let parent = random_parent(random, PARENT);
     let ids = random.pick(&[64, 64, 512]);
-    let half = random.between(50, MOST_ENTRIES / 2);
+    let most = some_most_entries(random);
+    let half = random.between(most / 2 - 14, most / 2);
     let mut entries = random_lists(random, half, ids, parent);
     entries.extend([random_table(random, 40, ids), random_mac(random, parent), payload_of_entries(random, half)]);
     turned(random, entries)
@@ -248,8 +250,8 @@ fn first_lists(count: usize) -> Vec<u8> {
     first_ids(count).into_iter().flat_map(|id| list(PARENT | id)).collect()
 }
 
-/// Before and after a MAC Address: as many rows and entries as there may be beside it, one entry more, two tables,
-/// lists of two parents, and another MAC Address.
+/// Before and after a MAC Address: as many rows and entries as there may be beside it, one entry more, as many as an
+/// older handset did not take, two tables, lists of two parents, and another MAC Address.
 fn own_mac_edges() -> Vec<Vec<u8>> {
     let own = mac(PARENT);
     let most_rows = (MOST_BYTES - own.len() - 4) / 3;
@@ -258,6 +260,7 @@ fn own_mac_edges() -> Vec<Vec<u8>> {
         [table(&first_ids(84)), first_lists(MOST_ENTRIES - 2)].concat(),
         [first_lists(MOST_ENTRIES - 2), table(&first_ids(512))].concat(),
         [first_lists(MOST_ENTRIES - 1), table(&[1])].concat(),
+        [first_lists(OLDER_ENTRIES - 1), table(&[1])].concat(),
         [table(&[]), first_lists(3)].concat(),
         [table(&[1]), table(&[]), list(0x2801)].concat(),
         [table(&[1, 2]), list(0x2801), table(&[2, 1, 2])].concat(),

@@ -1,11 +1,11 @@
 //! Diagnostic payloads for requests: random ones, whole or damaged, and those at each boundary.
 
+use super::about::{FULLEST, byte_edges, entry_edges};
 use super::datasets::{damaged, dataset_edges, entry, of_each_size, without_last};
 use super::diag_values::{CHILD_ADDRESSES, TYPES, fitting, misfit, value, value_edges};
 use super::network::{bare_prefix, item, many_rows};
 use crate::random::Random;
 use crate::rules::NETWORK_DATA;
-use crate::sizes::{MOST_BYTES, MOST_ENTRIES};
 
 /// Types whose values may be any bytes, and types that are not known.
 const FREE_TYPES: &[u8] = &[0, 17, 18, 10, 19, 22, 24, 29, 31, 200, 255];
@@ -13,9 +13,10 @@ const FREE_TYPES: &[u8] = &[0, 17, 18, 10, 19, 22, 24, 29, 31, 200, 255];
 /// One value in so many does not fit.
 const MISFIT_ONCE_IN: usize = 24;
 
-/// A random payload: most are small and whole, some damaged, some of about 128 entries, few of about 8,192 bytes.
+/// A random payload: most are small and whole, some damaged, some of about the most entries, few of about
+/// the most bytes.
 pub fn payload(random: &mut Random) -> Vec<u8> {
-    let whole = of_each_size(random, 5, free_payload, payload_of_entries, small_payload);
+    let whole = of_each_size(random, 3, free_payload, payload_of_entries, small_payload);
     if random.once_in(2) { whole } else { damaged(random, whole) }
 }
 
@@ -100,13 +101,13 @@ fn value_in_payload_edges(random: &mut Random, ty: u8) -> Vec<Vec<u8>> {
 /// Payloads at the sizes, also with a fault of a value before, which comes after 1, 2 and 3.
 fn payload_size_edges(random: &mut Random) -> Vec<Vec<u8>> {
     let mut edges = Vec::new();
-    for bytes in MOST_BYTES - 2..=MOST_BYTES + 2 {
+    for bytes in byte_edges() {
         edges.push(free_payload(random, 3, bytes));
         edges.push(without_last(free_payload(random, 3, bytes + 1)));
         edges.push([vec![1, 0], free_payload(random, 3, bytes - 2)].concat());
         edges.push([vec![1, 0], without_last(free_payload(random, 3, bytes - 1))].concat());
     }
-    for entries in MOST_ENTRIES - 1..=MOST_ENTRIES + 2 {
+    for entries in entry_edges() {
         let whole = payload_of_entries(random, entries);
         let free = free_payload(random, entries - 1, 2 * entries + 7);
         edges.push([&[1, 0], &free[..]].concat());
@@ -116,7 +117,9 @@ fn payload_size_edges(random: &mut Random) -> Vec<Vec<u8>> {
         edges.push(without_last(whole.clone()));
         edges.push(whole);
         edges.push((0..entries).flat_map(|_| [CHILD_ADDRESSES, 2, random.byte(), random.byte()]).collect());
-        edges.push(free_payload(random, entries, MOST_BYTES));
+    }
+    for (entries, bytes) in FULLEST {
+        edges.push(free_payload(random, entries, bytes));
     }
     edges
 }

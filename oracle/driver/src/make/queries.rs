@@ -3,6 +3,7 @@
 use meshcop::dataset::{TLV_CHANNEL_MASK, TLV_NETWORK_NAME, TLV_PSKC};
 
 use super::Maker;
+use super::about::{byte_edges, entry_edges, some_most_bytes};
 use super::datasets::{entry, without_last};
 use super::framing::words_of;
 use super::masks::ITEM_FORKS;
@@ -15,7 +16,7 @@ use super::typed::{
     value_of_size,
 };
 use crate::random::Random;
-use crate::sizes::{MOST_BYTES, MOST_ENTRIES};
+use crate::sizes::{MOST_BYTES, OLDER_BYTES};
 use crate::words::bytes_word;
 
 /// The maker for the query of a type.
@@ -66,13 +67,13 @@ pub fn query_edges(random: &mut Random, ty: u8) -> Vec<Vec<u8>> {
         edges.push(without_last(both.clone()));
         edges.push(both);
     }
-    for bytes in MOST_BYTES - 2..=MOST_BYTES + 2 {
+    for bytes in byte_edges() {
         edges.push(bytes_ending_in(random, ty, bytes));
     }
-    for bytes in [MOST_BYTES, MOST_BYTES + 1] {
+    for bytes in [MOST_BYTES, OLDER_BYTES + 1] {
         edges.push(entry(ty, &value_of_size(random, ty, bytes - 4), true));
     }
-    for entries in MOST_ENTRIES - 1..=MOST_ENTRIES + 2 {
+    for entries in entry_edges() {
         let whole = entries_ending_in(random, ty, entries);
         edges.push([&whole[..], &[ty]].concat());
         edges.push(whole);
@@ -133,8 +134,9 @@ pub const V_MASK: Maker = Maker {
 };
 
 fn random_bare<const TY: u8>(random: &mut Random) -> String {
-    if random.once_in(300) {
-        let bytes = random.between(MOST_BYTES - 1, MOST_BYTES + 3);
+    if random.once_in(500) {
+        let most = some_most_bytes(random);
+        let bytes = random.between(most - 1, most + 3);
         return bytes_word(&value_of_size(random, TY, bytes));
     }
     bytes_word(&value(random, TY))
@@ -142,7 +144,7 @@ fn random_bare<const TY: u8>(random: &mut Random) -> String {
 
 fn bare_edges<const TY: u8>(random: &mut Random) -> Vec<String> {
     let mut edges = value_edges(random, TY);
-    for bytes in MOST_BYTES - 2..=MOST_BYTES + 2 {
+    for bytes in byte_edges() {
         edges.push(value_of_size(random, TY, bytes));
     }
     // As long as may be, and its last item or character cut.

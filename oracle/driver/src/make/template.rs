@@ -8,7 +8,7 @@ use super::framing::last_type;
 use super::short::{Family, string, strings};
 use super::typed::{bytes_ending_in, entries_ending_in, typed_dataset};
 use crate::random::Random;
-use crate::sizes::{MOST_BYTES, MOST_ENTRIES};
+use crate::sizes::{MOST_BYTES, MOST_ENTRIES, OLDER_BYTES, OLDER_ENTRIES};
 
 /// The lengths where framing forks, in as few bytes as show it, and all inputs of up to four of them: a long header has room.
 const FORKS: &[u8] = &[0x00, 0x01, 0xff];
@@ -107,7 +107,8 @@ fn edges_of_both(random: &mut Random) -> Vec<String> {
         entries_ending_in(random, ty, MOST_ENTRIES),
         [&too_many[..], &[ty]].concat(),
         too_many,
-        entry(ty, &random.bytes(MOST_BYTES - 4), true),
+        entries_ending_in(random, ty, OLDER_ENTRIES + 1),
+        entry(ty, &random.bytes(OLDER_BYTES - 3), true),
         bytes_ending_in(random, ty, MOST_BYTES),
         bytes_ending_in(random, ty, MOST_BYTES + 1),
     ];

@@ -1,8 +1,8 @@
 //! Hex texts for requests: random ones, whole or damaged, and those at each boundary.
 
+use super::about::digit_edges;
 use super::datasets::{dataset_edges, whole_dataset};
 use crate::random::Random;
-use crate::sizes::MOST_HEX_DIGITS;
 
 /// The neighbours of the digits and letters in ASCII, blanks, and bytes that no ASCII text has.
 const NO_HEX_DIGITS: &[u8] = b"/:@G`gxX \n\r\t-\0\x7f\x80\xc3\xff";
@@ -56,19 +56,10 @@ pub fn digits(random: &mut Random, count: usize) -> Vec<u8> {
     text
 }
 
-/// The numbers of digits that lie at a boundary.
-fn digit_counts() -> impl Iterator<Item = usize> {
-    (0..=4).chain(longest_digit_counts())
-}
-
-pub fn longest_digit_counts() -> impl Iterator<Item = usize> {
-    MOST_HEX_DIGITS - 2..=MOST_HEX_DIGITS + 2
-}
-
 /// Texts at each boundary of their length: of digits alone, and with a bad character first or last.
 pub fn length_edges(random: &mut Random) -> Vec<Vec<u8>> {
     let mut edges = Vec::new();
-    for count in digit_counts() {
+    for count in (0..=4).chain(digit_edges()) {
         let good = digits(random, count);
         if count > 0 {
             edges.push(with_character(&good, 0, random.pick(NO_HEX_DIGITS)));

@@ -98,11 +98,11 @@ pub fn value_edges(random: &mut Random, ty: u8) -> Vec<Vec<u8>> {
 /// in `dataset`.
 pub fn typed_dataset(random: &mut Random, wanted: u8) -> Vec<u8> {
     let whole = match random.below(1_000) {
-        0..=4 => {
+        0..=2 => {
             let bytes = near_most_bytes(random);
             bytes_ending_in(random, wanted, bytes)
         }
-        5..=84 => {
+        3..=62 => {
             let entries = near_most_entries(random);
             entries_ending_in(random, wanted, entries)
         }

@@ -1,7 +1,7 @@
 //! Requests on the writing of records: `write`.
 
 use super::Maker;
-use super::caps::with_cap_before;
+use super::caps::{MUCH, with_cap_before};
 use super::field_faults::spoil_fields;
 use super::fields::{decoded_words, good_fields, words_of_fields};
 use super::payloads::payload;
@@ -28,7 +28,7 @@ fn random_write(random: &mut Random) -> String {
     if random.once_in(CHANGED_ONCE_IN) {
         return format!("{} {}", random.below(400), with_change(random, &fields));
     }
-    if random.once_in(3) { format!("20000 {fields}") } else { with_cap_before(random, &fields) }
+    if random.once_in(3) { format!("{MUCH} {fields}") } else { with_cap_before(random, &fields) }
 }
 
 /// Characters that fields are made of, and some that they are not.

@@ -1,13 +1,14 @@
 //! Records to be written about each boundary, and fields that can just not be read.
 
-use super::caps::{with_each_edge_cap_before, with_edge_caps_before_in_turn};
+use super::about::{byte_edges, entry_edges};
+use super::caps::{self, with_each_edge_cap_before, with_edge_caps_before_in_turn};
 use super::datasets::HEADER_EDGES;
 use super::diag_values::TYPES;
 use super::field_faults::{Bound, CHILD_BOUNDS, PREFERENCE_BOUNDS, ROUTE_BOUNDS, many_children};
 use super::fields::{Fields, good_text, prefix_of_size, prefix_with_rows, words_of_fields};
 use super::write_short::{LEAST, MUCH};
 use crate::random::Random;
-use crate::sizes::{MOST_BYTES, MOST_ENTRIES};
+use crate::sizes::MOST_ENTRIES;
 use crate::words::bytes_word;
 
 /// What an entry may hold.
@@ -200,20 +201,21 @@ fn prefix_edges(random: &mut Random) -> Vec<String> {
 
 /// Far more lists than there may be entries, all good, one that does not fit, or one that is too long.
 fn many_lists() -> Vec<String> {
+    let many = 4 * MOST_ENTRIES;
     let lists = |count: usize| vec!["513:1:-"; count];
     let with = |row: &str, place: usize| {
-        let mut lists = lists(1_030);
+        let mut lists = lists(many + 6);
         lists[place] = row;
         format!("30={}", lists.join("/"))
     };
     let too_long = format!("513:1:{}", "00".repeat(LONGEST - 1));
     vec![
-        format!("30={}", lists(1_023).join("/")),
-        format!("30={}", lists(1_024).join("/")),
-        format!("30={}", lists(1_025).join("/")),
-        with("513:2:-", 1_029),
-        with("513:1:00", 1_024),
-        with(&too_long, 1_026),
+        format!("30={}", lists(many - 1).join("/")),
+        format!("30={}", lists(many).join("/")),
+        format!("30={}", lists(many + 1).join("/")),
+        with("513:2:-", many + 5),
+        with("513:1:00", many),
+        with(&too_long, many + 2),
     ]
 }
 
@@ -221,11 +223,11 @@ fn many_lists() -> Vec<String> {
 fn payload_edges(random: &mut Random) -> Vec<String> {
     let mut edges: Vec<String> = LEAST.iter().chain(MUCH).map(|field| field.to_string()).collect();
     edges.push("-".to_string());
-    for entries in MOST_ENTRIES - 1..=MOST_ENTRIES + 2 {
+    for entries in entry_edges() {
         edges.push(format!("30={}", vec!["10241:1:-"; entries].join("/")));
         edges.push([&LEAST[..16], &[&format!("30={}", vec!["0:0:-"; entries - 16].join("/"))]].concat().join(" "));
     }
-    for bytes in MOST_BYTES - 1..=MOST_BYTES + 1 {
+    for bytes in byte_edges() {
         edges.push(format!("18={}", bytes_word(&random.bytes(bytes - 4))));
         edges.push(full_of_entries(random, bytes));
         edges.push(full_of_rows(random, bytes));
@@ -242,9 +244,10 @@ fn full_of_entries(random: &mut Random, bytes: usize) -> String {
 
 /// So many bytes, of a full child table, addresses, and what is missing then.
 fn full_of_rows(random: &mut Random, bytes: usize) -> String {
-    let (addresses, children) = (random.bytes(16 * 200), 1_500);
-    let rest = random.bytes(bytes - (4 + 3_200) - (4 + 4_500) - 4);
-    format!("8={} 16={} 17={}", bytes_word(&addresses), many_children(children), bytes_word(&rest))
+    let (addresses, children) = (16 * (bytes / 40), bytes / 6);
+    let rest = bytes - (4 + addresses) - (4 + 3 * children) - 4;
+    let [addresses, rest] = [addresses, rest].map(|length| bytes_word(&random.bytes(length)));
+    format!("8={addresses} 16={} 17={rest}", many_children(children))
 }
 
 /// Records of all fields.
@@ -256,12 +259,12 @@ fn all_fields(random: &mut Random) -> Vec<String> {
 /// Reasons for several refusals at once: of 12, 15, 10 and 11 each set, and some of these with 13.
 fn orders() -> Vec<String> {
     let over_tables = format!("7={}|-|-", vec!["0:0:-:-:0:0"; 65].join("/"));
-    let over_entries = format!("30={}", vec!["1:1:-"; 129].join("/"));
+    let over_entries = format!("30={}", vec!["1:1:-"; MOST_ENTRIES + 1].join("/"));
     let too_long = format!("0={}", "00".repeat(LONGEST + 1));
     let mut orders = Vec::new();
     for set in 0..16 {
         let chosen = |bit: usize| set >> bit & 1 == 1;
-        let cap = if chosen(0) { 1 } else { 20_000 };
+        let cap = if chosen(0) { 1 } else { caps::MUCH };
         let tables = if chosen(1) { &over_tables } else { "7=-|-|-" };
         let misfit = if chosen(2) { "8=00" } else { "8=-" };
         let entries = if chosen(3) { &over_entries } else { "30=-" };

@@ -1,6 +1,7 @@
 -- `network_texts::lent::changed` is safe and ends. Assumes nothing.
 use Prim.Native.Nat.{_-_}
 use borrow.Author.Needs.{needs}
+use Rattle.network_bridge.specs.Parts.{places}
 use Rattle.harness.proofs.network_texts.lent.changed.Statement.{statement}
 use Rattle.harness.proofs.network_texts.lent.changed.Tie as tie
 
@@ -8,7 +9,7 @@ abbrev Inv-loop : tie.InvT-loop
 Inv-loop tables counts k₀ k = Unit {0}
 
 abbrev μ-loop : tie.MeasureT-loop
-μ-loop tables counts k₀ k = 128 - k
+μ-loop tables counts k₀ k = places - k
 
 loop-holds : tie.Need-loop-holds Inv-loop μ-loop
 loop-holds c = search needs

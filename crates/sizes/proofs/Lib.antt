@@ -1,0 +1,7 @@
+pub mod Laws
+pub mod Framing
+pub mod Larger
+pub mod Today
+pub mod Older
+pub mod Handset
+pub mod Count
