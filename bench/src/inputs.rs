@@ -4,7 +4,7 @@ use crate::addresses::Addresses;
 use crate::diagnostics::Diagnostics;
 use crate::writing::Writing;
 
-/// The most bytes of an input.
+/// The bytes of the larger inputs: as many as the library takes.
 pub const MOST: usize = 16384;
 
 pub struct Input {
@@ -19,10 +19,10 @@ pub struct Input {
     pub writing: Writing,
 }
 
-/// The bytes of an entry of a dataset, and of an operation: MOST has as many of them as there may be.
+/// The bytes of an entry of a dataset, and of an operation: MOST bytes are as many of them as the library takes.
 const ENTRY: usize = 64;
 
-/// Each entry of another type: a type for each of them at MOST too.
+/// Entries, each of another type.
 fn dataset(size: usize) -> Vec<u8> {
     (0..size / ENTRY).flat_map(|k| entry(k as u8, ENTRY as u8 - 2)).collect()
 }

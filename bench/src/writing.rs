@@ -3,7 +3,7 @@ use crate::inputs::MOST;
 use crate::{diagnostics, ours};
 use meshcop::meshcop::diag::NetDiagData;
 
-/// One of each kind of row for so many bytes.
+/// For so many bytes the record's number is one more.
 const PER: usize = 128;
 
 pub struct Writing {
@@ -15,7 +15,8 @@ pub struct Writing {
 }
 
 impl Writing {
-    /// The Rust's record is read from what the library writes: the limit must write the same bytes again. What is lent has the addresses of the larger record.
+    /// The Rust's record is read from what the library writes: the limit must write the same bytes again. The bytes that are lent are as many as the addresses
+    /// of the larger record take.
     pub fn of(size: usize) -> Writing {
         let (n, routes, parts) = ((size / PER) as u8, diagnostics::route64(), diagnostics::some(MOST / PER * 16));
         let mut payload = vec![0; MOST];
