@@ -43,7 +43,7 @@ written-read os h k =
     let s = encodeOps os in
     let back = ops-back os (length s) 0 (count-bytes os) in
     let same = sym (length-bare (opsOf s .ops)) ∙ ap length (back .1) in
-    (opsOf s .ops, record { short = h; few = omega arith; whole = back .0; are = refl }, back .1)
+    (opsOf s .ops, record { short = h; few = omega arith; uncut = back .0; are = refl }, back .1)
 
 -- ---- operations that are written in bytes
 

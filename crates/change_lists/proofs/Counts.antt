@@ -1,7 +1,7 @@
 -- The count of operations from a state of the loop on: n are passed, over is the place of the first past the most where that one is passed, and st and
 -- os are how the list goes on. And what a caller of `count_operations` learns.
 -- Assumes nothing.
-use mathlib.Core.Path.{_≡_, refl, ap, _∙_}
+use mathlib.Core.Path.{_≡_, refl, sym, ap, _∙_, subst}
 use mathlib.Core.Bool.{Bool, true, false}
 use mathlib.Core.List.{List, _∷_}
 use Prim.Native.Nat.{ℕ, suc, _+_, _-_, _≤_}
@@ -78,7 +78,7 @@ module _ (i : ℕ) where
   given-by : (s : List ℕ) (n : ℕ) (a : Answer (List OpAt)) → operations i s ≡ a → given n ≡ onGiven length a → Read s (opsOf s .ops) × (a ≡ given (opsOf s .ops))
   given-by s n (given os) e c =
       let r = was-given i s os e in
-      rw (r .are) (r, refl)
+      (subst (Read s) (sym (r .are)) r, ap given (sym (r .are)))
   given-by s n absent e c = absurd (let z : _≡_ {A = ℕ} 0 1 = cc in omega arith)
   given-by s n (refused x y z) e c = absurd (let z : _≡_ {A = ℕ} 0 1 = cc in omega arith)
 

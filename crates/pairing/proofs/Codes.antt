@@ -1,19 +1,19 @@
 -- The numbers that `pair` writes say what was said: no list has the number of one of the two other answers, since a payload has few entries.
 -- Assumes nothing.
-use mathlib.Core.Path.{_≡_, refl, sym, ap, _∙_, subst}
+use mathlib.Core.Path.{_≡_, refl, sym, ap, _∙_}
 use mathlib.Core.List.{List, [], _∷_, map}
 use Prim.Native.Nat.{ℕ, _≤_}
 use native.Mathlib.Omega.{arith}
-use lib.Dec.{eqb, ltb}
+use lib.Dec.{eqb}
 use lib.ListN.{length, length-map}
-use borrow.Author.Tests.{ltb-false}
 use Rattle.refusal.specs.Sizes.{mostBytes, mostEntries}
 use Rattle.refusal.specs.Answer.{Answer, given, absent, refused, thenDo, onGiven}
 use Rattle.refusal.specs.Every.{Every}
 use Rattle.laws.proofs.Tests.{pick-all}
-use Rattle.tlv.specs.Entries.{Entry, Stop, clean, cutAt, framing}
-use Rattle.tlv.specs.Limits.{limited, framed}
+use Rattle.tlv.specs.Entries.{Entry, framing}
+use Rattle.tlv.specs.Limits.{framed}
 use Rattle.tlv.proofs.Tally.{only}
+use Rattle.tlv.proofs.Whole.{framed-whole}
 use Rattle.refusal.specs.Numbered.{nth}
 use Rattle.diag_entries.specs.Parts.{allOf}
 use Rattle.diag_entries.specs.Checked.{checked}
@@ -37,23 +37,9 @@ few-lists (e ∷ es) =
     pick-all (λ (l : List Entry). length l ≤ length (e ∷ es)) (eqb (e .ty) 30) (e ∷ allOf 30 es) (allOf 30 es)
     (λ t. omega (arith, few-lists es)) (λ t. omega (arith, few-lists es))
 
-abbrev Few : Answer (List Entry) → Type 0
-Few (given es) = length es ≤ mostEntries
-Few absent = Unit {0}
-Few (refused n p i) = Unit {0}
-
-limited-few : (st : Stop) (es : List Entry) → Few (limited mostEntries 0 st es)
-unfolding limited
-limited-few (cutAt p) es = tt
-limited-few clean es = pick-all Few (ltb mostEntries (length es)) _ (given es) (λ e. tt) (λ e. ltb-false _ _ e)
-
-framed-few : (s : List ℕ) → Few (framed 0 s)
-unfolding framed
-framed-few s = pick-all Few (ltb mostBytes (length s)) (refused 1 0 0) _ (λ e. tt) (λ e. limited-few (framing s .stop) (framing s .entries))
-
 few-entries : (s : List ℕ) → checked s ≡ given (framing s .entries) → length (framing s .entries) ≤ mostEntries
-unfolding checked
-few-entries s is = subst Few (framed-by (framing s .entries) (framing s .entries) (framed 0 s) (only 0 s) is) (framed-few s)
+unfolding checked framed
+few-entries s is = framed-whole mostBytes mostEntries 0 s (framing s .entries) (framed-by (framing s .entries) (framing s .entries) (framed 0 s) (only 0 s) is) .few
 
 -- ---- so every pair has a list of a small number
 below-by : (own : Answer ℕ) (rows lists : List ℕ) (id : ℕ) → length lists ≤ codeUnclear → Below codeUnclear (pairing own rows lists id)

@@ -1,4 +1,4 @@
--- The sizes of document 01, by name. Definitions and proofs use the names, so that raising a size is one edit here and one in src/lib.rt.
+-- The sizes of documents 01 and 02, by name. Definitions and proofs use the names, so that raising a size is one edit here and one in src/lib.rt.
 -- Assumes nothing.
 use Prim.Native.Nat.{ℕ}
 

@@ -12,6 +12,7 @@ use Rattle.refusal.specs.Sizes.{mostBytes, mostEntries}
 use Rattle.refusal.specs.Answer.{pick, given, refused}
 use Rattle.refusal.specs.Every.{Every}
 use Rattle.laws.proofs.Tests.{by-test}
+use Rattle.laws.proofs.Bits.{bit-small}
 use Rattle.laws.proofs.Parts.{every-parts, every-append}
 use Rattle.change_lists.specs.Operations.{Op, set, remove, bare, encodeOps}
 use Rattle.change_lists.proofs.Given.{input-alike}
@@ -67,7 +68,7 @@ module _ (os : List Op) where
       let l = length-append (removalsBelow n (lasts os)) (pick (removes (lasts os) n) (remove n ∷ []) []) in
       let one = once n os in
       let two = split n (lasts os) in
-      let top : bit (touches os n) ≤ 1 = by-test (touches os n) (λ e. rw e (omega arith)) (λ e. rw e (omega arith)) in
+      let top = bit-small (touches os n) in
       by-test (removes (lasts os) n)
       (λ e. let l′ = rw e at l in let two′ = rw e at two in rw e (omega arith))
       (λ e. let l′ = rw e at l in let two′ = rw e at two in rw e (omega arith))

@@ -1,20 +1,20 @@
--- "A handset not yet updated", against the library: every call of it is refused for size, or answers just what the library's does. Read the one way, old ones
--- read the same; read the other, a larger one is never shown in part.
+-- "A handset not yet updated", against the library: each of these calls of it is refused for size, or answers just what the library's does. Read the one way,
+-- old ones read the same; read the other, and with proofs/Larger.antt, a larger one is never shown in part.
 -- Assumes nothing.
 use mathlib.Core.Path.{_≡_, subst}
 use mathlib.Core.Logic.{_⊎_}
-use mathlib.Core.List.{List}
+use mathlib.Core.List.{List, []}
 use Prim.Native.Nat.{ℕ}
 use lib.ListN.{length}
 use Rattle.refusal.specs.Answer.{Answer, onGiven}
 use Rattle.tlv.specs.Entries.{Entry}
-use Rattle.tlv.specs.Limits.{framed}
+use Rattle.tlv.specs.Limits.{framed, count}
 use Rattle.base16.specs.Base16.{decoded}
-use Rattle.wire.specs.Be.{ruled}
+use Rattle.wire.specs.Be.{wrongLength, ruled}
 use Rattle.plain_values.specs.Plain.{sizedValue, nameAt}
 use Rattle.channel_masks.specs.Mask.{Masked, items}
 use Rattle.diag_rules.specs.Rule.{valueOf}
-use Rattle.tlv_last.specs.Last.{lastEntry, valueOr, lastValue}
+use Rattle.tlv_last.specs.Last.{lastEntry, spot, lastSpot, valueOr, lastValue}
 use Rattle.dataset.specs.Queries.{query}
 use Rattle.tlv_rewriting.specs.Rewrite.{rewritten, withSet, withPushed}
 use Rattle.tlv_rewriting.specs.declared.Choice.{Choice}
@@ -24,7 +24,7 @@ use Rattle.network_data.specs.declared.HasRouteEntry.{HasRouteEntry}
 use Rattle.network_data.specs.declared.BorderRouterEntry.{BorderRouterEntry}
 use Rattle.listing.specs.Listing.{listed, hexBy, listedHex, lineOf, told, reportBy, report}
 use Rattle.change_lists.specs.Operations.{operations}
-use Rattle.house_template.specs.Template.{supplied, whichever, suppliedValue}
+use Rattle.house_template.specs.Template.{supplied, onSupply, suppliedSpot, whichever, suppliedValue}
 use Rattle.nested_listing.specs.Nested.{nested}
 use Rattle.nested_listing.specs.Report.{nestedHex, nestedReport}
 use Rattle.dataset_parts.specs.Parts.{nameEntry, maskAs}
@@ -44,7 +44,7 @@ use Rattle.record_writing.specs.Lent.{Lent}
 use Rattle.record_writing.specs.Written.{written}
 use Rattle.sizes.specs.Within.{older, today, ForSize, Still}
 use Rattle.sizes.specs.Calls as c
-use Rattle.sizes.proofs.Laws.{still-of, NetworkKept, PayloadKept, still-network, still-payload}
+use Rattle.sizes.proofs.Laws.{still-of, still-on, still-part, NetworkKept, PayloadKept, still-network, still-payload}
 use Rattle.sizes.proofs.Older as o
 use Rattle.sizes.proofs.Today as t
 
@@ -55,6 +55,10 @@ by-today {A} {a} {b} {d} e s = subst (Still a) e s
 pub older-framed : (i : ℕ) (s : List ℕ) → Still (c.framedIn older i s) (framed i s)
 older-framed i s = by-today (t.framed-today i s) (o.framed-still older today o.older-under i s)
 
+pub older-count : (i : ℕ) (s : List ℕ) → Still (onGiven length (c.framedIn older i s)) (count i s)
+unfolding count
+older-count i s = still-on length (c.framedIn older i s) (framed i s) (older-framed i s)
+
 pub older-operations : (i : ℕ) (s : List ℕ) → Still (c.operationsIn older i s) (operations i s)
 older-operations i s = by-today (t.operations-today i s) (o.operations-still older today o.older-under i s)
 
@@ -62,6 +66,9 @@ pub older-decoded : (x : List ℕ) → Still (c.decodedIn older x) (decoded x)
 older-decoded x = by-today (t.decoded-today x) (o.decoded-still older today o.older-under x)
 
 -- ---- bare values
+pub older-wrong-length : {A : Type 0} (place n : ℕ) → Still {A = A} (c.wrongLengthIn older place n) (wrongLength place n)
+older-wrong-length place n = by-today (t.wrong-length-today place n) (o.wrong-length-still older today o.older-under place n)
+
 pub older-ruled : (k place : ℕ) (v : List ℕ) → Still (c.ruledIn older k place v) (ruled k place v)
 older-ruled k place v = by-today (t.ruled-today k place v) (o.ruled-still older today o.older-under k place v)
 
@@ -86,6 +93,14 @@ older-last ty i s = by-today (t.last-today ty i s) (o.last-still older today o.o
 
 pub older-supplied : (ty : ℕ) (d h : List ℕ) → Still (c.suppliedIn older ty d h) (supplied ty d h)
 older-supplied ty d h = by-today (t.supplied-today ty d h) (o.supplied-still older today o.older-under ty d h)
+
+pub older-spot : (ty i : ℕ) (s : List ℕ) → Still (onGiven spot (c.lastIn older ty i s)) (lastSpot ty i s)
+unfolding lastSpot
+older-spot ty i s = still-on spot (c.lastIn older ty i s) (lastEntry ty i s) (older-last ty i s)
+
+pub older-supplied-spot : (ty : ℕ) (d h : List ℕ) → Still (onGiven (onSupply spot) (c.suppliedIn older ty d h)) (suppliedSpot ty d h)
+unfolding suppliedSpot
+older-supplied-spot ty d h = still-on (onSupply spot) (c.suppliedIn older ty d h) (supplied ty d h) (older-supplied ty d h)
 
 pub older-query : {A : Type 0} (ty : ℕ) (f : List ℕ → A) (s : List ℕ) → Still (c.queryIn older ty f s) (query ty f s)
 older-query ty f s = by-today (t.query-today ty f s) (o.query-still older today o.older-under ty f s)
@@ -170,14 +185,19 @@ pub older-written : (r : NetDiagData) (l : Lent) → Still (c.writtenIn older r 
 older-written r l = by-today (t.written-today r l) (o.written-still older today o.older-under r l)
 
 -- ---- parts of the caller's bytes, what the programs print, lent tables: the older handset's answer is refused for size, or they are the library's
-pub older-last-value : (ty : ℕ) (s : List ℕ) → ForSize (c.lastIn older ty 0 s) ⊎ (valueOr (c.lastIn older ty 0 s) ≡ lastValue ty s)
+pub older-last-value : (ty : ℕ) (s : List ℕ)
+    → (ForSize (c.lastIn older ty 0 s) × (valueOr (c.lastIn older ty 0 s) ≡ [])) ⊎ (valueOr (c.lastIn older ty 0 s) ≡ lastValue ty s)
 unfolding lastValue
-older-last-value ty s = still-of (c.lastIn older ty 0 s) (lastEntry ty 0 s) valueOr (older-last ty 0 s)
+older-last-value ty s = still-part (c.lastIn older ty 0 s) (lastEntry ty 0 s) (older-last ty 0 s)
 
-pub older-supplied-value : (ty : ℕ) (d t : List ℕ)
-    → ForSize (c.suppliedIn older ty d t) ⊎ (valueOr (onGiven whichever (c.suppliedIn older ty d t)) ≡ suppliedValue ty d t)
+abbrev olderSupplied : (ty : ℕ) → (dataset template : List ℕ) → Answer Entry
+olderSupplied ty d h = onGiven whichever (c.suppliedIn older ty d h)
+
+pub older-supplied-value : (ty : ℕ) (d h : List ℕ)
+    → (ForSize (olderSupplied ty d h) × (valueOr (olderSupplied ty d h) ≡ [])) ⊎ (valueOr (olderSupplied ty d h) ≡ suppliedValue ty d h)
 unfolding suppliedValue
-older-supplied-value ty d t = still-of (c.suppliedIn older ty d t) (supplied ty d t) (λ a. valueOr (onGiven whichever a)) (older-supplied ty d t)
+older-supplied-value ty d h =
+    still-part (olderSupplied ty d h) (onGiven whichever (supplied ty d h)) (still-on whichever (c.suppliedIn older ty d h) (supplied ty d h) (older-supplied ty d h))
 
 pub older-report : (x : List ℕ)
     → ForSize (c.hexByIn older (c.listedIn older) (lineOf x)) ⊎ (told (c.hexByIn older (c.listedIn older) (lineOf x)) ≡ report x)

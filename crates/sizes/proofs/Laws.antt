@@ -2,7 +2,7 @@
 -- Assumes nothing.
 use mathlib.Core.Path.{_≡_, refl, sym, subst, _∙_}
 use mathlib.Core.Logic.{_⊎_, inl, inr}
-use mathlib.Core.List.{List}
+use mathlib.Core.List.{List, []}
 use mathlib.Core.Bool.{Bool, true, false}
 use Prim.Native.Nat.{ℕ, _≤_}
 use native.Mathlib.Omega.{arith}
@@ -11,6 +11,8 @@ use borrow.Author.Tests.{ltb-false, le-ltb}
 use Rattle.refusal.specs.Answer.{pick, Answer, given, absent, refused, thenDo, onGiven}
 use Rattle.refusal.specs.Output.{emit}
 use Rattle.laws.proofs.Tests.{by-test}
+use Rattle.tlv.specs.Entries.{Entry}
+use Rattle.tlv_last.specs.Last.{valueOr}
 use Rattle.network_data.specs.Decode.{Prefix}
 use Rattle.network_data.specs.declared.PrefixEntry.{PrefixEntry}
 use Rattle.network_data.specs.declared.HasRouteEntry.{HasRouteEntry}
@@ -36,7 +38,7 @@ module _ {A : Type 0} (a b : Answer A) where
   still-else-same (forSize h) n = absurd (n h)
   still-else-same (same s) n = s
 
-  -- and of whatever is made of an answer: a part of the caller's bytes, a copy, the text that a program prints
+  -- and of whatever is made of an answer: a copy, a count, the text that a program prints
   pub still-of : {B : Type 0} (f : Answer A → B) → Still a b → ForSize a ⊎ (f a ≡ f b)
   still-of f (forSize h) = inl h
   still-of f (same s) = inr (rw s)
@@ -51,6 +53,16 @@ for-emit (refused n p i) out h = (h, refl)
 pub still-emit : (a b : Answer (List ℕ)) (out : List ℕ) → Still a b → (ForSize (emit a out .answer) × (emit a out .left ≡ out)) ⊎ (emit a out ≡ emit b out)
 still-emit a b out (forSize h) = inl (for-emit a out h)
 still-emit a b out (same e) = inr (rw e)
+
+-- of a part of the caller's bytes that is handed out: it refuses for size and the part is empty, or it is the same
+for-part : (a : Answer Entry) → ForSize a → valueOr a ≡ []
+for-part (given e) h = absurd h
+for-part absent h = absurd h
+for-part (refused n p i) h = refl
+
+pub still-part : (a b : Answer Entry) → Still a b → (ForSize a × (valueOr a ≡ [])) ⊎ (valueOr a ≡ valueOr b)
+still-part a b (forSize h) = inl (h, for-part a h)
+still-part a b (same e) = inr (rw e)
 
 -- of one that fills lent tables: the same of their records
 module _ (P : List PrefixEntry) (H : List HasRouteEntry) (B : List BorderRouterEntry) where

@@ -1,5 +1,4 @@
--- OLD ONES READ THE SAME, and a handset not yet updated never shows part of a larger one: every call within the smaller sizes is refused for size, or answers
--- just what it answers within the larger.
+-- OLD ONES READ THE SAME: each of these calls within the smaller sizes is refused for size, or answers just what it answers within the larger.
 -- Assumes nothing.
 use mathlib.Core.Path.{refl}
 use mathlib.Core.Logic.{inl, inr}
@@ -91,9 +90,13 @@ module _ (z y : Sizes) (u : Under z y) where
   within-still : {A : Type 0} (v : List ℕ) (a b : Answer A) → Still a b → Still (c.within z v a) (c.within y v b)
   within-still v a b s = still-test (z .bytes) (y .bytes) (length v) (refused 1 0 0) (refused 1 0 0) a b (u .bytes) (inl refl) s
 
+  pub wrong-length-still : {A : Type 0} (place n : ℕ) → Still {A = A} (c.wrongLengthIn z place n) (c.wrongLengthIn y place n)
+  unfolding c.wrongLengthIn
+  wrong-length-still place n = still-test (z .bytes) (y .bytes) n (refused 1 0 0) (refused 1 0 0) (refused 4 place 0) (refused 4 place 0) (u .bytes) (inl refl) (same refl)
+
   pub ruled-still : (k place : ℕ) (v : List ℕ) → Still (c.ruledIn z k place v) (c.ruledIn y k place v)
   unfolding c.ruledIn
-  ruled-still k place v = still-pick (eqb (length v) k) (given v) (given v) _ _ (same refl) (within-still v (refused 4 place 0) (refused 4 place 0) (same refl))
+  ruled-still k place v = still-pick (eqb (length v) k) (given v) (given v) _ _ (same refl) (wrong-length-still place (length v))
 
   pub sized-value-still : (v : List ℕ) → Still (c.sizedValueIn z v) (c.sizedValueIn y v)
   unfolding c.sizedValueIn

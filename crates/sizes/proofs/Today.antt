@@ -4,7 +4,7 @@ use mathlib.Core.Path.{_≡_, refl, ap, fun-ext}
 use mathlib.Core.List.{List, [], _∷_}
 use Prim.Native.Nat.{ℕ}
 use Rattle.refusal.specs.Answer.{Answer, thenDo}
-use Rattle.tlv.specs.Entries.{Entry}
+use Rattle.tlv.specs.Entries.{Entry, Content}
 use Rattle.tlv.specs.Limits.{framed}
 use Rattle.base16.specs.Base16.{decoded}
 use Rattle.wire.specs.Be.{wrongLength, ruled}
@@ -23,7 +23,7 @@ use Rattle.nested_listing.specs.Nested.{nested}
 use Rattle.tlv_rewriting.specs.Rewrite.{rewritten, withSet, withPushed}
 use Rattle.tlv_rewriting.specs.declared.Choice.{Choice}
 use Rattle.dataset_hex.specs.Hex.{hexOf, wellFramed, fromHex}
-use Rattle.change_lists.specs.Operations.{operations}
+use Rattle.change_lists.specs.Operations.{Op, operations}
 use Rattle.change_folds.specs.Run.{ran}
 use Rattle.change_folds.specs.Fold.{sizedOps, folded, foldedTwo}
 use Rattle.diag_entries.specs.Checked.{entryValue, decoding, checked}
@@ -49,9 +49,21 @@ pub decoded-today : (x : List ℕ) → c.decodedIn today x ≡ decoded x
 unfolding decoded
 decoded-today x = refl
 
+pub sized-today : (cs : List Content) → c.sizedIn today cs ≡ sized cs
+unfolding sized
+sized-today cs = refl
+
+pub sized-ops-today : (os : List Op) → c.sizedOpsIn today os ≡ sizedOps os
+unfolding sizedOps
+sized-ops-today os = refl
+
 -- ---- bare values
+pub wrong-length-today : {A : Type 0} (place n : ℕ) → c.wrongLengthIn today {A} place n ≡ wrongLength place n
+unfolding c.wrongLengthIn wrongLength
+wrong-length-today place n = refl
+
 pub ruled-today : (k place : ℕ) (v : List ℕ) → c.ruledIn today k place v ≡ ruled k place v
-unfolding c.ruledIn ruled wrongLength
+unfolding c.ruledIn c.wrongLengthIn ruled wrongLength
 ruled-today k place v = refl
 
 pub sized-value-today : (v : List ℕ) → c.sizedValueIn today v ≡ sizedValue v
@@ -84,7 +96,7 @@ unfolding c.suppliedIn c.lastIn supplied lastEntry framed
 supplied-today ty d t = refl
 
 pub query-today : {A : Type 0} (ty : ℕ) (f : List ℕ → A) (s : List ℕ) → c.queryIn today ty f s ≡ query ty f s
-unfolding c.queryIn c.lastIn c.ruledIn query lastEntry framed ruled wrongLength
+unfolding c.queryIn c.lastIn c.ruledIn c.wrongLengthIn query lastEntry framed ruled wrongLength
 query-today ty f s = refl
 
 pub name-entry-today : (s : List ℕ) → c.nameEntryIn today s ≡ nameEntry s
@@ -96,11 +108,11 @@ unfolding c.lastIn c.maskIn lastEntry framed items
 mask-as-today f s = refl
 
 pub delay-today : (d : ℕ) (s : List ℕ) → c.delayIn today d s ≡ delayOr d s
-unfolding c.delayIn c.queryIn c.lastIn c.ruledIn delayOr query lastEntry framed ruled wrongLength
+unfolding c.delayIn c.queryIn c.lastIn c.ruledIn c.wrongLengthIn delayOr query lastEntry framed ruled wrongLength
 delay-today d s = refl
 
 pub due-today : (d : ℕ) (s : List ℕ) (clock : ℕ) → c.dueIn today d s clock ≡ dueOr d s clock
-unfolding c.dueIn c.delayIn c.queryIn c.lastIn c.ruledIn dueOr delayOr query lastEntry framed ruled wrongLength
+unfolding c.dueIn c.delayIn c.queryIn c.lastIn c.ruledIn c.wrongLengthIn dueOr delayOr query lastEntry framed ruled wrongLength
 due-today d s clock = refl
 
 -- ---- listings

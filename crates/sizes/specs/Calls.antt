@@ -62,12 +62,15 @@ module _ (z : Sizes) where
   abbrev pub sizedOpsIn : List Op → Answer (List ℕ)
   sizedOpsIn os = sizedOpsWithin (z .bytes) (z .entries) os
 
-  -- ---- bare values
+  -- ---- bare values; `within` is the test for 1 that their definitions begin with
   abbrev pub within : {A : Type 0} → List ℕ → Answer A → Answer A
   within v a = pick (ltb (z .bytes) (length v)) (refused 1 0 0) a
 
+  unfoldable pub wrongLengthIn : {A : Type 0} → (place n : ℕ) → Answer A
+  wrongLengthIn place n = pick (ltb (z .bytes) n) (refused 1 0 0) (refused 4 place 0)
+
   unfoldable pub ruledIn : (k place : ℕ) → List ℕ → Answer (List ℕ)
-  ruledIn k place v = pick (eqb (length v) k) (given v) (within v (refused 4 place 0))
+  ruledIn k place v = pick (eqb (length v) k) (given v) (wrongLengthIn place (length v))
 
   unfoldable pub sizedValueIn : List ℕ → Answer (List ℕ)
   sizedValueIn v = within v (given v)

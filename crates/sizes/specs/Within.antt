@@ -35,7 +35,7 @@ ForSize absent = ⊥
 ForSize (refused n p i) = (n ≡ 1) ⊎ ((n ≡ 3) ⊎ (n ≡ 10))
 
 -- THE RELATION: within the smaller sizes a call is refused for size, or answers just what it answers within the larger: values, absence and
--- every other refusal. So what was answered is answered the same, and what is not within the smaller sizes is never given in part
+-- every other refusal. So what was answered is answered the same. (What the smaller sizes refuse: proofs/Larger.antt)
 pub data Still {A : Type 0} (a b : Answer A) : Type 0 where
   forSize : ForSize a → Still a b
   same : a ≡ b → Still a b

@@ -17,7 +17,7 @@ limited most i (cutAt p) es = refused 2 p i
 limited most i clean es = pick (ltb most (length es)) (refused 3 (placeOfNext most es) i) (given es)
 
 -- the entries of s, which is the caller's input of that number, or why it has none, where so many bytes and entries are the most
-abbrev pub framedWithin : (bytes entries input : ℕ) → List ℕ → Answer (List Entry)
+abbrev pub framedWithin : (bytes most input : ℕ) → List ℕ → Answer (List Entry)
 framedWithin bytes most i s = pick (ltb bytes (length s)) (refused 1 0 i) (limited most i (framing s .stop) (framing s .entries))
 
 -- within today's sizes

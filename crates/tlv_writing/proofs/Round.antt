@@ -8,48 +8,30 @@ use native.Mathlib.Omega.{arith}
 use native.Mathlib.Nat.{div-add-mod'}
 use lib.ListN.{length, take, drop, length-append, take-append-drop}
 use lib.Seq.{take-append-seam, drop-append-seam, length-take-le}
-use lib.Dec.{leb, ltb, eqb}
-use borrow.Author.Tests.{le-leb, le-ltb, leb-true, leb-false, ltb-false, ne-eqb, eqb-true, eqb-false}
+use lib.Dec.{leb, eqb}
+use borrow.Author.Tests.{le-leb, leb-true, leb-false, ne-eqb, eqb-true, eqb-false}
 use Rattle.refusal.specs.Sizes.{mostBytes, mostEntries, mostShort}
-use Rattle.refusal.specs.Answer.{Answer, given, absent, refused, onGiven}
+use Rattle.refusal.specs.Answer.{given, onGiven}
 use Rattle.laws.proofs.Tests.{by-test, pick-all}
 use Rattle.refusal.specs.Every.{Every, Bytes}
 use Rattle.laws.proofs.Parts.{every-parts}
-use Rattle.tlv.specs.Entries.{First, none, cut, one, valued, long, first, Entry, entry, Content, contents, Stop, clean, cutAt, Framing, done, onto, step, frames, framing}
-use Rattle.tlv.specs.Limits.{limited, framed}
+use Rattle.tlv.specs.Entries.{First, none, cut, one, valued, long, first, Entry, entry, Content, contents, clean, Framing, done, onto, step, frames, framing}
+use Rattle.tlv.specs.Limits.{framed}
+use Rattle.tlv.proofs.Whole.{Whole, framed-whole, whole-framed}
 use Rattle.tlv_writing.specs.Encode.{header, encode, sizeOf, encodeAll, Shortest}
 use Rattle.tlv_writing.proofs.Encodes.{header-short, header-long, length-encode, size-bound}
 
--- ---- entries are given exactly where s is within the sizes and no entry is cut short
-abbrev Within : List ℕ → Answer (List Entry) → Type 0
-Within s (given es) = (length s ≤ mostBytes) × (length es ≤ mostEntries) × (framing s .stop ≡ clean) × (framing s .entries ≡ es)
-Within s absent = Unit {0}
-Within s (refused n p i) = Unit {0}
-
-module _ (i : ℕ) (s : List ℕ) where
-  limited-within : (st : Stop) → framing s .stop ≡ st → length s ≤ mostBytes → Within s (limited mostEntries i st (framing s .entries))
-  unfolding limited
-  limited-within (cutAt p) e h = tt
-  limited-within clean e h =
-      pick-all (Within s) (ltb mostEntries (length (framing s .entries))) _ (given (framing s .entries)) (λ t. tt) (λ t. (h, ltb-false _ _ t, e, refl))
-
-  framed-within : Within s (framed i s)
+-- ---- what is given
+module _ (i : ℕ) (s : List ℕ) (es : List Entry) (e : framed i s ≡ given es) where
+  given-whole : Whole mostBytes mostEntries s (framing s .stop) (framing s .entries) es
   unfolding framed
-  framed-within = pick-all (Within s) (ltb mostBytes (length s)) (refused 1 0 i) _ (λ t. tt) (λ t. limited-within (framing s .stop) refl (ltb-false _ _ t))
+  given-whole = framed-whole mostBytes mostEntries i s es e
 
-  module _ (es : List Entry) (e : framed i s ≡ given es) where
-    given-within : Within s (given es)
-    given-within = subst (Within s) e framed-within
+  pub given-bytes : length s ≤ mostBytes
+  given-bytes = given-whole .short
 
-    pub given-bytes : length s ≤ mostBytes
-    given-bytes = given-within .0
-
-    pub given-entries : length es ≤ mostEntries
-    given-entries = given-within .1
-
-  framed-given : length s ≤ mostBytes → length (framing s .entries) ≤ mostEntries → framing s .stop ≡ clean → framed i s ≡ given (framing s .entries)
-  unfolding framed limited
-  framed-given h k e = simp (le-ltb _ _ h, e, le-ltb _ _ k)
+  pub given-entries : length es ≤ mostEntries
+  given-entries = given-whole .few
 
 -- ---- an entry as it is written, and the bytes after it
 module _ (t : ℕ) (v rest : List ℕ) where
@@ -115,12 +97,12 @@ length-contents (e ∷ es) = ap suc (length-contents es)
 -- "parsing what was written, where it is within the sizes above, gives the same entries"
 pub parse-written : (i : ℕ) (cs : List Content) → length (encodeAll cs) ≤ mostBytes → length cs ≤ mostEntries
     → onGiven contents (framed i (encodeAll cs)) ≡ given cs
-unfolding framing
+unfolding framing framed
 parse-written i cs h k =
     let s = encodeAll cs in
     let back = frames-back (length s) 0 cs (omega arith) in
     let same = sym (length-contents (framing s .entries)) ∙ ap length (back .0) in
-    rw (framed-given i s h (omega arith) (back .1)) (ap given (back .0))
+    rw (whole-framed mostBytes mostEntries i s h (omega arith) (back .1)) (ap given (back .0))
 
 -- ---- what was parsed is written
 
@@ -219,8 +201,8 @@ frames-rewrites (suc k) at s h b e =
 given-rewrites : (i : ℕ) (s : List ℕ) (es : List Entry) → Bytes s → framed i s ≡ given es → Rewrites s es
 unfolding framing
 given-rewrites i s es b e =
-    let w = given-within i s es e in
-    subst (Rewrites s) (w .3) (frames-rewrites (length s) 0 s (omega arith) b (w .2))
+    let w = given-whole i s es e in
+    subst (Rewrites s) (w .are) (frames-rewrites (length s) 0 s (omega arith) b (w .uncut))
 
 -- "writing what was parsed gives the input's bytes exactly when no long header carried a length under 255"
 pub write-parsed : (i : ℕ) (s : List ℕ) (es : List Entry) → Bytes s → framed i s ≡ given es
