@@ -58,7 +58,7 @@ unfolding sizedOps
 sized-ops-today os = refl
 
 -- ---- bare values
-pub wrong-length-today : {A : Type 0} (place n : ℕ) → c.wrongLengthIn today {A} place n ≡ wrongLength place n
+pub wrong-length-today : {A : Type 0} (place n : ℕ) → c.wrongLengthIn today {A = A} place n ≡ wrongLength place n
 unfolding c.wrongLengthIn wrongLength
 wrong-length-today place n = refl
 
