@@ -41,7 +41,7 @@ pub fn route64() -> Vec<u8> {
 /// The most prefixes that there may be.
 const PREFIXES: usize = 64;
 
-/// Prefixes of 128 bytes, or as many as there may be and longer: at most 256 bytes, since the length of a TLV is a byte. Each has a context, a row of each
+/// Prefixes of 128 bytes, or as many as there may be and longer: 256 bytes still fit a TLV, whose length is a byte. Each has a context, a row of each
 /// kind, and an inner TLV that is passed over, which fills it.
 fn network_data(size: usize) -> Vec<u8> {
     let n = PREFIXES.min(size / 128);

@@ -3,7 +3,7 @@ use crate::inputs::MOST;
 use crate::{diagnostics, ours};
 use meshcop::meshcop::diag::NetDiagData;
 
-/// For so many bytes the record's number is one more.
+/// The record's number is the size over this.
 const PER: usize = 128;
 
 pub struct Writing {

@@ -2,8 +2,8 @@
 use crate::texts::ROOM;
 use crate::texts::Room;
 
-// What a call can be lent.
-const LENT: usize = 131072;
+// What a call can be lent: more than any result has, the longest being a nested listing, 7 times the most bytes, and an entry of 65,539.
+const LENT: usize = 8 * refusal::MAX_BYTES;
 
 pub(crate) type Lent = [u8; LENT];
 

@@ -13,7 +13,7 @@ struct Band {
 }
 
 /// Lines about the most bytes, those about the most entries or 255 bytes, and all others.
-const LONG: Band = Band { over: 4_000, most_characters: 1_130_000 };
+const LONG: Band = Band { over: 4_000, most_characters: 1_030_000 };
 const MIDDLING: Band = Band { over: 300, most_characters: 245_000 };
 const SHORT: Band = Band { over: 0, most_characters: 250_000 };
 
@@ -155,13 +155,15 @@ fn long_ones(kinds: &mut BTreeMap<Kind, Vec<String>>) -> Vec<(Kind, Vec<String>)
     long
 }
 
-/// The first of the calls that read their input as this one does: a dataset, a list, a hex text, or what the dot tells.
+/// The first of the calls that test the size of their input as this one does: a dataset, a list, a hex text, a value of any length, or what the dot tells.
 fn family_of((place, _): &Kind) -> &'static str {
     match calls::ALL.get(*place).map_or("", |call| call.name) {
         "rewrite" | "raw" | "tohex" | "set" | "push" | "remove" | "flat" => "frame",
         "wdelay" | "due" | "wdelay30" | "due30" => "frame",
         "fold" => "ops",
         "hexdata" | "hexflat" => "hexframe",
+        "v.pskc" | "v.name" => "v.pskc",
+        "v.mask" => "v.mask",
         name => name.split('.').next().unwrap_or(name),
     }
 }
