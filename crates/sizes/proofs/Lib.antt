@@ -5,3 +5,4 @@ pub mod Today
 pub mod Older
 pub mod Handset
 pub mod Count
+pub mod Examples
