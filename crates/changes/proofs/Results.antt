@@ -12,7 +12,7 @@ use Rattle.refusal.specs.Sizes.{mostBytes, mostEntries}
 use Rattle.refusal.specs.Answer.{Answer, given, absent, refused, onGiven, thenDo}
 use Rattle.refusal.specs.Every.{Bytes}
 use Rattle.refusal.specs.Output.{Output, emit, put}
-use Rattle.laws.proofs.Parts.{every-append}
+use Rattle.laws.proofs.Parts.{every-append, every-byte}
 use Rattle.laws.proofs.Puts.{put-then}
 use Rattle.tlv.specs.Entries.{Content, contents, Framing, framing}
 use Rattle.tlv.specs.Limits.{count}
@@ -32,10 +32,6 @@ use Rattle.change_lists.proofs.Counts.{counted-given, counted-refused}
 use Rattle.changes.proofs.Marks.{marks-one, marks-two, bare-append, bare-after, between-after, both-between, typed-after, chosen-append, chosen-is, spared-is, gone-is}
 use Rattle.changes.proofs.Writes as w
 use Rattle.changes.proofs.Removals.{ops-append, ops-sets, gone-bytes}
-
-bytes-are : (s : List ℕ) → ((i : ℕ) → getD s i 0 < 256) → Bytes s
-bytes-are [] h = tt
-bytes-are (x ∷ s) h = (h 0, bytes-are s (λ i. h (suc i)))
 
 -- what two and three writers after one another have stored
 pub put-both : (out mid end : List ℕ) (to : ℕ) (xs ys bs : List ℕ) → mid ≡ put out 0 xs → to ≡ length xs → end ≡ put mid to ys → bs ≡ xs ++ ys
@@ -73,7 +69,7 @@ module _ (d l : List ℕ) where
       run-sized =
           let cs = contents (framing d .entries) in
           let g = marks-one m (opsAfter 0 l) marked in
-          let fit = typed-after 0 l (bytes-are l octets) in
+          let fit = typed-after 0 l (every-byte l octets) in
           run-given ∙ ap (λ (a : Answer (List OpAt)). thenDo a (λ (os : List OpAt). sized (runAll (bare os) cs))) (counted-given 1 l y listed)
           ∙ ap sized
           (ap (λ (os : List Op). runAll os cs) (sym (bare-after 0 l)) ∙ run-is (bare (opsAfter 0 l)) cs
@@ -154,7 +150,7 @@ module _ (a b : List ℕ) where
           bare-append (opsAfter 0 a) (opsAfter (length a) b) ∙ ap₂ _++_ (bare-after 0 a) (bare-after (length a) b) in
           let fit : Typed (bare l) =
           rw (bare-append (opsAfter 0 a) (opsAfter (length a) b))
-          (every-append _ (bare (opsAfter 0 a)) (bare (opsAfter (length a) b)) (typed-after 0 a (bytes-are a octets)) (typed-after (length a) b (bytes-are b more))) in
+          (every-append _ (bare (opsAfter 0 a)) (bare (opsAfter (length a) b)) (typed-after 0 a (every-byte a octets)) (typed-after (length a) b (every-byte b more))) in
           let sets : chosen m (opsAfter 0 a) ++ chosen m (opsAfter (length a) b) ≡ puts (setsOf (lasts (bare l))) =
           sym (chosen-append m (opsAfter 0 a) (opsAfter (length a) b)) ∙ chosen-is m l g fit 0 (length a + length b) (both-between a b) in
           ap foldAll (sym same)

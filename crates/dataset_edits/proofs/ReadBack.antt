@@ -110,7 +110,7 @@ sized-given cs bs e =
     let same : bs ≡ encodeAll cs = cc in
     rw same (parse-written 0 cs (ltb-false _ _ t) (ltb-false _ _ u))))
 
-was-set : (t : ℕ) (v s bs : List ℕ) → withSet t v s ≡ given bs → Became (setLast t v) s bs
+pub was-set : (t : ℕ) (v s bs : List ℕ) → withSet t v s ≡ given bs → Became (setLast t v) s bs
 unfolding withSet
 was-set t v s bs e = by (framed 0 s) refl e
   where

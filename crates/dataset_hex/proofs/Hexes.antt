@@ -38,11 +38,6 @@ module _ (a : Answer (List ℕ)) (out left : List ℕ) where
       by (itself is _) = is
       by (no-room bs is short _) = absurd (omega (arith, room bs is))
 
--- each is a byte where it is one by its index
-pub every-byte : (s : List ℕ) → ((i : ℕ) → getD s i 0 < 256) → Bytes s
-every-byte [] h = tt
-every-byte (b ∷ s) h = (h 0, every-byte s (λ i. h (suc i)))
-
 -- ---- to hex
 module _ (s scratch left : List ℕ) where
   pub to-hex-given : (n : ℕ) → output (given n) left ≡ emit (rewritten All s) scratch → hexOf s ≡ given (hexText (take (n - 0) left))

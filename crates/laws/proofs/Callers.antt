@@ -24,10 +24,10 @@ pub data Refuses (a : Answer (List ℕ)) (out left : List ℕ) (n p i : ℕ) : T
   no-room : (bytes : List ℕ) → a ≡ given bytes → length out < length bytes → n ≡ 11 → Refuses a out left n p i
 
 module _ {x y : Answer ℕ} {l m : List ℕ} (same : output x l ≡ output y m) where
-  answers : x ≡ y
+  pub answers : x ≡ y
   answers = ap (λ (o : Output). o .answer) same
 
-  lefts : l ≡ m
+  pub lefts : l ≡ m
   lefts = ap (λ (o : Output). o .left) same
 
   -- two answers that cannot be the same

@@ -2,11 +2,11 @@
 -- Assumes nothing.
 use mathlib.Core.Path.{_≡_, refl, ap}
 use mathlib.Core.List.{List, [], _∷_, _++_}
-use Prim.Native.Nat.{ℕ, zero, suc, _+_, _≤_}
+use Prim.Native.Nat.{ℕ, zero, suc, _+_, _≤_, _<_}
 use native.Mathlib.Omega.{arith}
 use lib.ListN.{length, take, drop, getD, length-drop}
 use lib.Seq.{length-take-le, drop-cons}
-use Rattle.refusal.specs.Every.{Every}
+use Rattle.refusal.specs.Every.{Every, Bytes}
 
 pub length-part : (s : List ℕ) (a n : ℕ) → a + n ≤ length s → length (take n (drop a s)) ≡ n
 length-part s a n h = length-take-le n (drop a s) (rw length-drop (omega arith))
@@ -39,3 +39,8 @@ module _ {A : Type 0} (P : A → Type 0) where
   every-drop zero l h = h
   every-drop (suc n) [] h = tt
   every-drop (suc n) (x ∷ l) h = every-drop n l (h .1)
+
+-- each is a byte where it is one by its index
+pub every-byte : (s : List ℕ) → ((i : ℕ) → getD s i 0 < 256) → Bytes s
+every-byte [] h = tt
+every-byte (b ∷ s) h = (h 0, every-byte s (λ i. h (suc i)))

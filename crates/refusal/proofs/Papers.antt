@@ -34,7 +34,7 @@ faultOf n =
     (pick (eqb n 9) f.BadOperation
     (pick (eqb n 10) f.ResultTooLarge
     (pick (eqb n 11) f.NoRoom
-    (pick (eqb n 12) f.TooManyRows (pick (eqb n 13) f.ValueTooLong (pick (eqb n 14) f.NowTooLate (pick (eqb n 15) f.Unwritable f.NotAddress))))))))))))))
+    (pick (eqb n 12) f.TooManyRows (pick (eqb n 13) f.ValueTooLong (pick (eqb n 14) f.NowTooLate (pick (eqb n 15) f.Unwritable (pick (eqb n 16) f.NotAddress f.WrongIndex)))))))))))))))
 
 fault-back : (x : Fault) → faultOf (faultNumber x) ≡ x
 fault-back f.TooLarge = refl
@@ -53,6 +53,7 @@ fault-back f.ValueTooLong = refl
 fault-back f.NowTooLate = refl
 fault-back f.Unwritable = refl
 fault-back f.NotAddress = refl
+fault-back f.WrongIndex = refl
 
 pub fault-tells : Tells faultNumber
 fault-tells = tells faultNumber faultOf fault-back

@@ -25,6 +25,8 @@ faultNumber f.NowTooLate = 14
 faultNumber f.Unwritable = 15
 -- document 02, Three: "16 for any text outside those forms"
 faultNumber f.NotAddress = 16
+-- document 02, Seven: "17 ... for a stored index that is misframed or isn't the one the dataset gives"
+faultNumber f.WrongIndex = 17
 
 abbrev pub refusalAnswer : {A : Type 0} → Refusal → Answer A
 refusalAnswer r = refused (faultNumber (r .fault)) (r .place) (r .input)

@@ -38,6 +38,7 @@ pub enum Fault {
     NowTooLate,
     Unwritable,
     NotAddress,
+    WrongIndex,
 }
 
 // What is refused, the place in the input that is at fault, and which input that is: 0 the first, 1 the second.
@@ -86,6 +87,7 @@ impl Fault {
             Fault::NowTooLate => 14,
             Fault::Unwritable => 15,
             Fault::NotAddress => 16,
+            Fault::WrongIndex => 17,
         }
     }
 }

@@ -54,7 +54,7 @@ There x = x ≡ absent → ⊥
 given-there : (e : Entry) → There (given e)
 given-there e h = let z : _≡_ {A = ℕ} 0 1 = cc in omega arith
 
-absent-none : (ty : ℕ) (es : List Entry) → lastOf ty absent es ≡ absent → Every (Other ty) es
+pub absent-none : (ty : ℕ) (es : List Entry) → lastOf ty absent es ≡ absent → Every (Other ty) es
 unfolding lastOf
 absent-none ty [] h = tt
 absent-none ty (e ∷ es) h =

@@ -3,7 +3,8 @@
 use native.Mathlib.Omega.{arith}
 use Rattle.laws.proofs.Emits.{emit-refused}
 use Rattle.laws.proofs.Callers.{gave-inside}
-use Rattle.dataset_hex.proofs.Hexes.{every-byte, to-hex-given, to-hex-refused}
+use Rattle.laws.proofs.Parts.{every-byte}
+use Rattle.dataset_hex.proofs.Hexes.{to-hex-given, to-hex-refused}
 use borrow.Author.Needs.{needs}
 use Rattle.dataset_hex.proofs.to_hex.Statement.{statement}
 use Rattle.dataset_hex.proofs.to_hex.Tie as tie

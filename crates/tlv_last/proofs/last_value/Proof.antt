@@ -1,29 +1,14 @@
 -- `tlv_last::last_value` meets its contract: what `last_entry` found lies within the input.
 -- Assumes nothing.
-use mathlib.Core.Path.{_≡_, sym, ap, _∙_}
-use mathlib.Core.List.{[], _∷_}
-use mathlib.Core.Logic.{⊎-elim}
-use Prim.Native.Nat.{ℕ}
+use mathlib.Core.Path.{sym, ap, _∙_}
 use native.Mathlib.Omega.{arith}
 use native.Mathlib.Nat.{add-sub-cancel-left, add-sub-cancel}
-use types.Run.{OneOf}
-use denote.Enum.Declared.{tagOf}
-use Rattle.refusal.specs.Answer.{given}
-use Rattle.tlv_last.specs.Last.{Spot}
 use Rattle.tlv_last.specs.Answers.{foundAnswer}
-use Rattle.tlv_last.specs.declared.Found.{Found}
-use Rattle.tlv_last.specs.declared.Found.the-variants.{At, Absent, Refused}
-use Rattle.tlv_last.proofs.Found
 use Rattle.tlv_last.proofs.Lasts.{spot-part, spot-none}
+use Rattle.tlv_last.proofs.Papers.{no-spot}
 use borrow.Author.Needs.{needs}
 use Rattle.tlv_last.proofs.last_value.Statement.{statement}
 use Rattle.tlv_last.proofs.last_value.Tie as tie
-
--- the arm for whatever is no place
-no-spot : (r : Found) → OneOf (1 ∷ 2 ∷ []) (tagOf Found.the-type r) → (e : Spot) → foundAnswer r ≡ given e → ⊥
-no-spot (At p a n) k e h = ⊎-elim (λ e. omega arith) (λ e. omega arith) k
-no-spot Absent k e h = let z : _≡_ {A = ℕ} 0 1 = cc in omega arith
-no-spot (Refused r) k e h = let z : _≡_ {A = ℕ} 0 1 = cc in omega arith
 
 last-entry-requires : tie.Need-last-entry-requires
 last-entry-requires c κs = search needs

@@ -1,0 +1,67 @@
+-- A stored index beside the one that the dataset gives.
+-- Assumes nothing.
+use mathlib.Core.Path.{_≡_, refl, sym, ap, _∙_}
+use mathlib.Core.Bool.{true, false}
+use mathlib.Core.List.{List, [], _∷_, _++_, append-nil}
+use Prim.Native.Nat.{ℕ, _≤_, _<_}
+use native.Mathlib.Omega.{arith}
+use lib.ListN.{length, drop, drop-of-length-le}
+use lib.Dec.{eqb}
+use borrow.Author.Tests.{eq-eqb, eqb-true}
+use Rattle.refusal.specs.Answer.{pick, Answer, given, absent, refused, thenDo}
+use Rattle.refusal.specs.Output.{output, emit}
+use Rattle.laws.proofs.Tests.{by-test}
+use Rattle.laws.proofs.Answers.{gives}
+use Rattle.laws.proofs.Callers.{gave, Refuses, itself, no-room, refuses}
+use Rattle.tlv.specs.Limits.{framed}
+use Rattle.dataset_index.specs.Index.{indexBytes, indexSize, built, sameBytes, loaded}
+use Rattle.dataset_index.proofs.Slots.{index-length}
+
+same-self : (xs : List ℕ) → sameBytes xs xs ≡ true
+unfolding sameBytes
+same-self [] = refl
+same-self (x ∷ xs) = rw (eq-eqb x x refl) (same-self xs)
+
+same-equal : (xs ys : List ℕ) → sameBytes xs ys ≡ true → xs ≡ ys
+unfolding sameBytes
+same-equal [] [] h = refl
+same-equal [] (y ∷ ys) h = absurd (let z : _≡_ {A = ℕ} 0 1 = cc in omega arith)
+same-equal (x ∷ xs) [] h = absurd (let z : _≡_ {A = ℕ} 0 1 = cc in omega arith)
+same-equal (x ∷ xs) (y ∷ ys) h =
+    by-test (eqb x y)
+    (λ t. let a : x ≡ y = eqb-true x y t in let b : xs ≡ ys = same-equal xs ys (simp t at h) in rw (a, b))
+    (λ t. absurd (let k : false ≡ true = simp t at h in let z : _≡_ {A = ℕ} 0 1 = cc in omega arith))
+
+same-not : (xs ys : List ℕ) → (xs ≡ ys → ⊥) → sameBytes xs ys ≡ false
+same-not xs ys h = by-test (sameBytes xs ys) (λ t. absurd (h (same-equal xs ys t))) (λ t. t)
+
+pub built-length : (s bs : List ℕ) → built s ≡ given bs → length bs ≡ indexSize
+unfolding built
+built-length s bs e =
+    let g = gives indexBytes (framed 0 s) bs e in
+    ap length (sym (g .so)) ∙ index-length (g .one)
+
+-- what `build` left in a buffer of that size is all of it
+pub fresh-is : (s out left : List ℕ) (n : ℕ) → length out ≡ indexSize → output (given n) left ≡ emit (built s) out → built s ≡ given left
+fresh-is s out left n size e =
+    let g = gave out left (built s) n e in
+    let long : length (g .bytes) ≡ indexSize = built-length s (g .bytes) (g .are) in
+    let none : drop (length (g .bytes)) out ≡ [] = drop-of-length-le out {i = length (g .bytes)} (omega arith) in
+    g .are ∙ ap given (sym (g .laid ∙ rw none (append-nil (g .bytes))))
+
+module _ (s x : List ℕ) where
+  pub load-kept : (left : List ℕ) → built s ≡ given left → left ≡ x → given tt ≡ loaded s x
+  unfolding loaded
+  load-kept left e h = rw (e, h, same-self x)
+
+  pub load-stale : (left : List ℕ) → built s ≡ given left → (left ≡ x → ⊥) → refused 17 0 1 ≡ loaded s x
+  unfolding loaded
+  load-stale left e h = rw (e, same-not left x h)
+
+  refused-by : (out left : List ℕ) (n p i : ℕ) → length out ≡ indexSize → Refuses (built s) out left n p i → refused n p i ≡ loaded s x
+  unfolding loaded
+  refused-by out left n p i size (itself a l) = rw a
+  refused-by out left n p i size (no-room bs a l m) = absurd (let long = built-length s bs a in omega arith)
+
+  pub load-refused : (out left : List ℕ) (n p i : ℕ) → length out ≡ indexSize → output (refused n p i) left ≡ emit (built s) out → refused n p i ≡ loaded s x
+  load-refused out left n p i size e = refused-by out left n p i size (refuses out left (built s) n p i e)

@@ -1,0 +1,4 @@
+pub mod Index
+pub mod Query
+pub mod Answers
+pub mod Loops
