@@ -2,3 +2,5 @@ pub mod Slots
 pub mod Tables
 pub mod Loads
 pub mod Queries
+pub mod Meaning
+pub mod Papers

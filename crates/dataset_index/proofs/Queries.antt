@@ -175,7 +175,7 @@ module _ (s : List ℕ) (es : List Entry) (fine : framed 0 s ≡ given es) where
       stored-place = place-read ty es small (omega (arith, count-fits)) (omega (arith, place-fits))
 
 -- ---- THE LAW
-index-framed : (es : List Entry) → isFramed (indexBytes es) ≡ true
+pub index-framed : (es : List Entry) → isFramed (indexBytes es) ≡ true
 unfolding isFramed indexBytes
 index-framed es = rw (eq-eqb (length (indexBytes es)) indexSize (index-length es)) refl
 

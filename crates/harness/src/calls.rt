@@ -9,6 +9,7 @@ use crate::dataset_texts;
 use crate::diag_texts;
 use crate::edit_texts;
 use crate::entry_texts;
+use crate::index_texts;
 use crate::network_texts;
 use crate::requests::Values;
 use crate::requests::read;
@@ -38,6 +39,10 @@ fn text_calls(request: &Room, v: Values, text: &mut Room, at: usize) -> usize {
     let entry = entry_texts::answer(request, v, text, at);
     if entry != at {
         return entry;
+    }
+    let index = index_texts::answer(request, v, text, at);
+    if index != at {
+        return index;
     }
     let dataset = dataset_texts::answer(request, v, text, at);
     if dataset != at {

@@ -1,9 +1,10 @@
-// The texts of calls that write into an output which is lent: entries, hex text, edits, change lists, listings, addresses.
+// The texts of calls that write into an output which is lent: entries, hex text, edits, with an index too, change lists, listings, addresses.
 mod addresses;
 mod answers;
 mod edits;
 mod entries;
 mod hexes;
+mod indexed;
 pub(crate) mod lent;
 mod listings;
 mod lists;
@@ -14,6 +15,7 @@ use crate::texts::Room;
 use answers::put_answer;
 use entries::entry_calls;
 use hexes::put_hexframe;
+use indexed::indexed_texts;
 use lent::lend;
 use listings::put_report;
 
@@ -38,6 +40,10 @@ pub(crate) fn answer(
     }
     if asks(request, b"prog b") {
         return put_report(text, at, s, out);
+    }
+    let indexed = indexed_texts(request, v, out, text, at);
+    if indexed != at {
+        return indexed;
     }
     put_write(request, v, out, text, at)
 }

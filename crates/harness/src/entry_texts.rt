@@ -53,7 +53,13 @@ pub(crate) fn put_frame(text: &mut Room, at: usize, s: &[u8]) -> usize {
 }
 
 // A part after the words of its answer, and where it begins.
-fn put_part(text: &mut Room, at: usize, words: &[u8], part: &[u8], start: usize) -> usize {
+pub(crate) fn put_part(
+    text: &mut Room,
+    at: usize,
+    words: &[u8],
+    part: &[u8],
+    start: usize,
+) -> usize {
     let word = put_text(text, at, words);
     let bytes = put_hex(text, word, part);
     let sign = put_text(text, bytes, b" @");

@@ -8,6 +8,7 @@ mod dataset_texts;
 mod diag_texts;
 mod edit_texts;
 mod entry_texts;
+mod index_texts;
 mod lines;
 mod network_texts;
 mod requests;

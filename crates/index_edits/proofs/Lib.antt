@@ -1,2 +1,3 @@
 pub mod Both
 pub mod Updated
+pub mod Papers

@@ -16,6 +16,7 @@ pub mod ChannelMasks
 pub mod PlainValues
 pub mod Dataset
 pub mod DatasetEdits
+pub mod DatasetIndex
 pub mod ChangeLists
 pub mod Changes
 pub mod Delay

@@ -1,5 +1,5 @@
 // The calls whose instructions bench/ counts, under C names: each answers what is given, or 2^63 plus the number of the refusal;
-// `speed_last` the length of what is found, and `speed_utf8` yes or no.
+// `speed_last` and `speed_by_index` the length of what is found, and `speed_utf8` yes or no.
 mod filled;
 
 use diag_values::ModeData;
@@ -21,6 +21,8 @@ ghost use Rattle.refusal.specs.Answer.{given, onGiven};
 ghost use Rattle.refusal.specs.Output.{emit, writtenAnswer};
 ghost use Rattle.tlv.specs.Limits.{count};
 ghost use Rattle.tlv_last.specs.Last.{lastValue};
+ghost use Rattle.dataset_index.specs.Index.{built};
+ghost use Rattle.dataset_index.specs.Query.{valueByIndex};
 ghost use Rattle.tlv_rewriting.specs.Rewrite.{rewritten};
 ghost use Rattle.tlv_rewriting.specs.declared.Choice.the-variants.{All};
 ghost use Rattle.hex_text.specs.HexText.{hexText};
@@ -70,6 +72,20 @@ pub extern "C" fn speed_last(s: &[u8], ty: u8) -> u64
     ensures { λ r. ⌜ r ≡ length (lastValue ty (now (s .entry))) ⌝ }
 {
     tlv_last::last_value(s, ty).len() as u64
+}
+
+#[no_mangle]
+pub extern "C" fn speed_index(dataset: &[u8], out: &mut [u8]) -> u64
+    ensures { λ r. ⌜ (r ≡ code (emit (built (now (dataset .entry))) (now (out .entry)) .answer)) × (now (out .exit) ≡ emit (built (now (dataset .entry))) (now (out .entry)) .left) ⌝ }
+{
+    coded(dataset_index::build(dataset, out))
+}
+
+#[no_mangle]
+pub extern "C" fn speed_by_index(dataset: &[u8], index: &[u8], ty: u8) -> u64
+    ensures { λ r. ⌜ r ≡ length (valueByIndex ty (now (dataset .entry)) (now (index .entry))) ⌝ }
+{
+    dataset_index::last_value(dataset, index, ty).len() as u64
 }
 
 #[no_mangle]

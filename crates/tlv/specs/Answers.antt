@@ -1,10 +1,10 @@
 -- The code's answers, on paper.
 -- Assumes nothing.
-use Prim.Native.Nat.{ℕ}
+use Prim.Native.Nat.{ℕ, _-_}
 use lib.ListN.{length}
 use Rattle.refusal.specs.Answer.{Answer, given, refused}
 use Rattle.refusal.specs.Number.{refusalAnswer}
-use Rattle.tlv.specs.Entries.{First, none, cut, one}
+use Rattle.tlv.specs.Entries.{First, none, cut, one, Entry}
 use Rattle.tlv.specs.declared.Counted.{Counted}
 use Rattle.tlv.specs.declared.Counted.the-variants as c
 use Rattle.tlv.specs.declared.Parsed.{Parsed}
@@ -22,6 +22,10 @@ pub record Head : Type 0 where
 
 abbrev pub head : (ty header len : ℕ) → Head
 head t h n = record { ty = t; header = h; len = n }
+
+-- the header of an entry, which lies between its first byte and its value's
+abbrev pub headerOf : Entry → Head
+headerOf e = head (e .ty) (e .start - e .place) (length (e .value))
 
 abbrev pub parsedAnswer : Parsed → Answer Head
 parsedAnswer (p.Entry t h n) = given (head t h n)

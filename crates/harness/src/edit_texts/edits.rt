@@ -1,4 +1,4 @@
-// Calls that edit a dataset, take it from hex text or to it, or write a mask item: `set`, `remove`, `hexdata`, `tohex`, `maskitem`.
+// Calls that edit a dataset, take it from hex text or to it, write its index or a mask item: `set`, `remove`, `hexdata`, `tohex`, `index`, `maskitem`.
 use crate::edit_texts::answers::Answer;
 use crate::edit_texts::lists::list_calls;
 use crate::requests::Values;
@@ -22,6 +22,9 @@ pub(crate) fn edit_calls(request: &Room, v: Values, lent: &mut [u8]) -> Answer {
     }
     if asks(request, b"tohex bn") {
         return Answer::Wrote(dataset_hex::to_hex(v.bytes(request, 1), lent));
+    }
+    if asks(request, b"index bn") {
+        return Answer::Wrote(dataset_index::build(v.bytes(request, 1), lent));
     }
     if asks(request, b"maskitem tbn") {
         return Answer::Wrote(channel_masks::write_mask_item(
