@@ -2,6 +2,7 @@
 
 use crate::addresses::Addresses;
 use crate::diagnostics::Diagnostics;
+use crate::settings::Settings;
 use crate::writing::Writing;
 
 /// The bytes of the larger inputs: as many as the library takes.
@@ -10,6 +11,7 @@ pub const MOST: usize = 16384;
 pub struct Input {
     pub dataset: Vec<u8>,
     pub last: u8,
+    pub settings: Settings,
     pub hex: Vec<u8>,
     pub ascii: Vec<u8>,
     pub mixed: Vec<u8>,
@@ -20,14 +22,14 @@ pub struct Input {
 }
 
 /// The bytes of an entry of a dataset, and of an operation: MOST bytes are as many of them as the library takes.
-const ENTRY: usize = 64;
+pub const ENTRY: usize = 64;
 
 /// Entries, each of another type.
 fn dataset(size: usize) -> Vec<u8> {
     (0..size / ENTRY).flat_map(|k| entry(k as u8, ENTRY as u8 - 2)).collect()
 }
 
-fn entry(ty: u8, len: u8) -> Vec<u8> {
+pub fn entry(ty: u8, len: u8) -> Vec<u8> {
     let mut bytes = vec![ty, len];
     bytes.extend((0..len).map(|k| k.wrapping_mul(7).wrapping_add(ty)));
     bytes
@@ -49,6 +51,7 @@ impl Input {
         let dataset = dataset(size);
         Input {
             last: (size / ENTRY - 1) as u8,
+            settings: Settings::of(size),
             hex: hex::encode(&dataset).into_bytes(),
             ascii: (0..size).map(|k| b'a' + (k % 26) as u8).collect(),
             mixed: "aé本😀".bytes().cycle().take(size / 10 * 10).collect(),

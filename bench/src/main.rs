@@ -7,6 +7,7 @@ mod inputs;
 mod limit;
 mod ours;
 mod rust;
+mod settings;
 mod sums;
 mod writing;
 
@@ -15,10 +16,13 @@ use inputs::Input;
 type Work = fn(&Input, &mut [u8]) -> u64;
 
 /// Each with the library's way and the Rust's.
-const WORK: [(&str, Work, Work); 26] = [
+const WORK: [(&str, Work, Work); 29] = [
     ("framing", ours::framing, rust::framing),
     ("rewrite", ours::rewrite, rust::rewrite),
     ("last_value", ours::last_value, rust::last_value),
+    ("twelve", ours::twelve, rust::twelve),
+    ("twelve_index", ours::twelve_by_index, rust::twelve),
+    ("index", |i, out| ours::index(&i.settings.dataset, out), |i, out| rust::index(&i.settings.dataset, out)),
     ("hex_in", ours::hex_in, rust::hex_in),
     ("hex_out", ours::hex_out, rust::hex_out),
     ("addr_text", ours::addr_text, rust::addr_text),

@@ -1,9 +1,12 @@
 //! The library's side: its calls under their C names (crates/speed).
 use crate::inputs::Input;
+use crate::settings;
 
 unsafe extern "C" {
     fn speed_count(s: *const u8, n: usize) -> u64;
     fn speed_last(s: *const u8, n: usize, ty: u8) -> u64;
+    fn speed_index(s: *const u8, n: usize, out: *mut u8, room: usize) -> u64;
+    fn speed_by_index(d: *const u8, m: usize, x: *const u8, n: usize, ty: u8) -> u64;
     fn speed_rewrite(s: *const u8, n: usize, out: *mut u8, room: usize) -> u64;
     fn speed_unhex(s: *const u8, n: usize, out: *mut u8, room: usize) -> u64;
     fn speed_hex(s: *const u8, n: usize, out: *mut u8, room: usize) -> u64;
@@ -24,6 +27,20 @@ pub fn framing(input: &Input, _: &mut [u8]) -> u64 {
 
 pub fn last_value(input: &Input, _: &mut [u8]) -> u64 {
     unsafe { speed_last(input.dataset.as_ptr(), input.dataset.len(), input.last) }
+}
+
+pub fn twelve(input: &Input, _: &mut [u8]) -> u64 {
+    let d = &input.settings.dataset;
+    settings::twelve(|ty| unsafe { speed_last(d.as_ptr(), d.len(), ty) })
+}
+
+pub fn twelve_by_index(input: &Input, _: &mut [u8]) -> u64 {
+    let (d, x) = (&input.settings.dataset, &input.settings.index);
+    settings::twelve(|ty| unsafe { speed_by_index(d.as_ptr(), d.len(), x.as_ptr(), x.len(), ty) })
+}
+
+pub fn index(dataset: &[u8], out: &mut [u8]) -> u64 {
+    unsafe { speed_index(dataset.as_ptr(), dataset.len(), out.as_mut_ptr(), out.len()) }
 }
 
 pub fn rewrite(input: &Input, out: &mut [u8]) -> u64 {

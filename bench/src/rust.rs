@@ -1,5 +1,6 @@
 //! The Rust's side, by its public functions and the crates that it uses.
 use crate::inputs::{Input, MOST};
+use crate::settings::{self, INDEX};
 use crate::sums;
 use meshcop::dataset::Dataset;
 use meshcop::meshcop::diag::{ModeData, NetDiagData, NetworkData};
@@ -17,6 +18,29 @@ pub fn framing(input: &Input, _: &mut [u8]) -> u64 {
 pub fn last_value(input: &Input, _: &mut [u8]) -> u64 {
     let set = TlvSet::parse(&input.dataset).expect("a dataset");
     set.last_value(input.last).map_or(0, |value| value.len() as u64)
+}
+
+/// The dataset is parsed already.
+pub fn twelve(input: &Input, _: &mut [u8]) -> u64 {
+    settings::twelve(|ty| input.settings.parsed.last_value(ty).map_or(0, |value| value.len() as u64))
+}
+
+/// Not in the Rust: its parse, which it does once before all queries, and then the index of the entries.
+pub fn index(dataset: &[u8], out: &mut [u8]) -> u64 {
+    let set = TlvSet::parse(dataset).expect("a dataset");
+    let mut slots = [[0u16; 2]; 256];
+    let mut place = 0;
+    for entry in set.entries() {
+        let slot = &mut slots[entry.ty as usize];
+        *slot = [slot[0] + 1, place];
+        // A header of two bytes, since every value here is under 255.
+        place += 2 + entry.value.len() as u16;
+    }
+    out[..2].copy_from_slice(&[0x49, 0x58]);
+    for (bytes, number) in out[2..].chunks_exact_mut(2).zip(slots.as_flattened()) {
+        bytes.copy_from_slice(&number.to_be_bytes());
+    }
+    INDEX as u64
 }
 
 fn written(bytes: &[u8], out: &mut [u8]) -> u64 {

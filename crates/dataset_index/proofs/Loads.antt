@@ -1,7 +1,7 @@
 -- A stored index beside the one that the dataset gives.
 -- Assumes nothing.
 use mathlib.Core.Path.{_≡_, refl, sym, ap, _∙_}
-use mathlib.Core.Bool.{true, false}
+use mathlib.Core.Bool.{Bool, true, false}
 use mathlib.Core.List.{List, [], _∷_, _++_, append-nil}
 use Prim.Native.Nat.{ℕ, _≤_, _<_}
 use native.Mathlib.Omega.{arith}
@@ -50,13 +50,11 @@ fresh-is s out left n size e =
     g .are ∙ ap given (sym (g .laid ∙ rw none (append-nil (g .bytes))))
 
 module _ (s x : List ℕ) where
-  pub load-kept : (left : List ℕ) → built s ≡ given left → left ≡ x → given tt ≡ loaded s x
+  -- by whether the two are the same
+  pub load-judged : (left : List ℕ) (b : Bool) → built s ≡ given left → (b ≡ true → left ≡ x) → (left ≡ x → b ≡ true) → pick b (given tt) (refused 17 0 1) ≡ loaded s x
   unfolding loaded
-  load-kept left e h = rw (e, h, same-self x)
-
-  pub load-stale : (left : List ℕ) → built s ≡ given left → (left ≡ x → ⊥) → refused 17 0 1 ≡ loaded s x
-  unfolding loaded
-  load-stale left e h = rw (e, same-not left x h)
+  load-judged left true e so if = rw (e, so refl, same-self x)
+  load-judged left false e so if = rw (e, same-not left x (λ h. let z = if h in let z : _≡_ {A = ℕ} 0 1 = cc in omega arith))
 
   refused-by : (out left : List ℕ) (n p i : ℕ) → length out ≡ indexSize → Refuses (built s) out left n p i → refused n p i ≡ loaded s x
   unfolding loaded

@@ -10,6 +10,7 @@ ghost use mathlib.Core.List.{[], _∷_};
 ghost use Prim.Native.Nat.{_+_, _≤_};
 ghost use lib.ListN.{length, drop};
 ghost use Rattle.refusal.specs.Sizes.{mostBytes};
+ghost use Rattle.refusal.specs.Answer.{pick, given, refused};
 ghost use Rattle.refusal.specs.Output.{output, emit, put, writtenAnswer};
 ghost use Rattle.wire_bytes.specs.Bytes.{bytesOf};
 ghost use Rattle.tlv.specs.Entries.{first};
@@ -120,6 +121,16 @@ fn wrong_index() -> Refusal
     }
 }
 
+// What is said of a stored index, by whether it is the one that the dataset gives.
+fn judged(same: bool) -> Loaded
+    ensures { λ r. ⌜ loadedAnswer r ≡ pick same (given tt) (refused 17 0 1) ⌝ }
+{
+    if same {
+        return Loaded::Current;
+    }
+    Loaded::Refused(wrong_index())
+}
+
 // Whether a stored index is the one that the dataset gives. Refusals: 1, 2, 3, then 17.
 pub fn load(dataset: &[u8], stored: &[u8]) -> Loaded
     ensures { λ r. ⌜ loadedAnswer r ≡ loaded (now (dataset .entry)) (now (stored .entry)) ⌝ }
@@ -127,12 +138,7 @@ pub fn load(dataset: &[u8], stored: &[u8]) -> Loaded
     let mut fresh = [0u8; INDEX_BYTES];
     match build(dataset, &mut fresh) {
         Written::Refused(r) => Loaded::Refused(r),
-        Written::Bytes(_) => {
-            if check::same(&fresh, stored) {
-                return Loaded::Current;
-            }
-            Loaded::Refused(wrong_index())
-        }
+        Written::Bytes(_) => judged(check::same(&fresh, stored)),
     }
 }
 

@@ -5,3 +5,4 @@ pub mod NetworkData
 pub mod Pairing
 pub mod Addresses
 pub mod NestedListing
+pub mod Index

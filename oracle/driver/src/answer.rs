@@ -30,7 +30,7 @@ impl Refusal {
 /// What a call that does not refuse answers.
 #[derive(Debug)]
 pub enum Found {
-    /// The words after `ok`.
+    /// The words after `ok`, if there are any.
     Value(String),
     /// For queries, when the type is not there.
     Absent,
@@ -47,6 +47,7 @@ pub enum Reply {
 impl fmt::Display for Reply {
     fn fmt(&self, f: &mut fmt::Formatter<'_>) -> fmt::Result {
         match self {
+            Reply::Answered(Ok(Found::Value(words))) if words.is_empty() => write!(f, "ok"),
             Reply::Answered(Ok(Found::Value(words))) => write!(f, "ok {words}"),
             Reply::Answered(Ok(Found::Absent)) => write!(f, "absent"),
             Reply::Answered(Err(refusal)) => {

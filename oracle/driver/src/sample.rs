@@ -3,8 +3,9 @@
 use std::collections::{BTreeMap, HashSet};
 
 use crate::answer::{Answer, Found, Reply, reply};
-use crate::calls;
+use crate::calls::{self, INDEX_BYTES, INDEX_MARK};
 use crate::make::Sequence;
+use crate::words::bytes_of;
 
 /// So many of the sample's characters may be in lines that are longer than `over`, up to the next band's.
 struct Band {
@@ -12,8 +13,10 @@ struct Band {
     most_characters: usize,
 }
 
-/// Lines about the most bytes, those about the most entries or 255 bytes, and all others.
-const LONG: Band = Band { over: 4_000, most_characters: 1_030_000 };
+/// Lines about the most bytes, those that have an index or are answered with one, those about the most entries or 255 bytes,
+/// and all others.
+const LONG: Band = Band { over: 4_000, most_characters: 992_000 };
+const WITH_INDEX: Band = Band { over: 2_000, most_characters: 60_000 };
 const MIDDLING: Band = Band { over: 300, most_characters: 245_000 };
 const SHORT: Band = Band { over: 0, most_characters: 250_000 };
 
@@ -21,6 +24,13 @@ const MOST_LONG_LINES: usize = 60;
 
 /// Refusals of a value, which stand at its entry.
 const OF_VALUES: &[u32] = &[4, 5, 12];
+
+/// The refusals of an index that is not the dataset's, and of a lent output, be it the dataset's or the index's.
+const OTHER_INDEX: u32 = 17;
+const NO_ROOM: u32 = 11;
+
+/// So many characters over `WITH_INDEX`'s are few.
+const FEW_BESIDE_INDEX: usize = 150;
 
 /// The refusal of a field that cannot be written. It does not say which, but in most requests of few fields it is the last.
 const NO_FIT: u32 = 15;
@@ -36,6 +46,7 @@ type Kind = (usize, String);
 pub fn sample(sequence: &Sequence, wanted: usize) -> Vec<String> {
     let mut kinds = requests_by_kind(sequence, (CASES_A_LINE * wanted).max(LEAST_CASES));
     let mut chosen = choose(LONG, long_ones(&mut kinds), MOST_LONG_LINES);
+    chosen.extend(choose(WITH_INDEX, ones_with_index(&mut kinds), wanted / 3));
     let mut middling = take_over(MIDDLING.over, &mut kinds);
     // Those that nothing short shows come first.
     middling.sort_by_key(|(kind, _)| !kinds[kind].is_empty());
@@ -84,7 +95,34 @@ fn label(call: &str, request: &str, answer: &Answer) -> String {
         Err(refusal) if call == "write" && refusal.number == NO_FIT => {
             format!("{} type {}", refused(refusal.number, 0), last_type(request))
         }
-        Err(refusal) => refused(refusal.number, refusal.input),
+        Err(refusal) => {
+            format!("{}{}", refused(refusal.number, refusal.input), about_index(call, request, refusal.number))
+        }
+    }
+}
+
+/// Of a call that takes an index: what is wrong with it, or that nothing but the new index has no room.
+fn about_index(call: &str, request: &str, number: u32) -> &'static str {
+    let words: Vec<&str> = request.split(' ').collect();
+    match (call, number) {
+        ("ixload" | "ixquery" | "ixlook", OTHER_INDEX) => fault_of_index(words[words.len() - 1]),
+        ("ixset" | "ixremove", OTHER_INDEX) => fault_of_index(words[words.len() - 3]),
+        ("ixset" | "ixremove", NO_ROOM) if fits_but_for_the_last(&words) => " for the index",
+        _ => "",
+    }
+}
+
+fn fits_but_for_the_last(words: &[&str]) -> bool {
+    let much = u64::MAX.to_string();
+    let with_room = [&words[..words.len() - 1], &[&much]].concat().join(" ");
+    matches!(reply(with_room.as_bytes()), Reply::Answered(Ok(_)))
+}
+
+fn fault_of_index(word: &str) -> &'static str {
+    match bytes_of(word.as_bytes()).unwrap_or_default() {
+        stored if stored.len() != INDEX_BYTES => " by its length",
+        stored if !stored.starts_with(&INDEX_MARK) => " by its mark",
+        _ => " by what it tells",
     }
 }
 
@@ -155,11 +193,32 @@ fn long_ones(kinds: &mut BTreeMap<Kind, Vec<String>>) -> Vec<(Kind, Vec<String>)
     long
 }
 
+/// Takes out those of the calls on an index that have one, or an answer with one, and keeps of each kind that nothing
+/// shorter shows the longest of those that have few bytes beside the index, or else the shortest.
+fn ones_with_index(kinds: &mut BTreeMap<Kind, Vec<String>>) -> Vec<(Kind, Vec<String>)> {
+    let length = |request: &str| request.len() + reply(request.as_bytes()).to_string().len();
+    let mut kept = Vec::new();
+    for (kind, requests) in kinds.iter_mut().filter(|(kind, _)| is_on_an_index(kind)) {
+        let mut taken: Vec<String> = requests.extract_if(.., |request| length(request) > WITH_INDEX.over).collect();
+        taken.sort_by_key(String::len);
+        let few = taken.partition_point(|request| request.len() <= WITH_INDEX.over + FEW_BESIDE_INDEX);
+        if requests.is_empty() && !taken.is_empty() {
+            kept.push((kind.clone(), vec![taken.swap_remove(few.saturating_sub(1))]));
+        }
+    }
+    kept
+}
+
+fn is_on_an_index((place, _): &Kind) -> bool {
+    calls::ALL.get(*place).is_some_and(|call| call.name == "index" || call.name.starts_with("ix"))
+}
+
 /// The first of the calls that test the size of their input as this one does: a dataset, a list, a hex text, a value of any length, or what the dot tells.
 fn family_of((place, _): &Kind) -> &'static str {
     match calls::ALL.get(*place).map_or("", |call| call.name) {
         "rewrite" | "raw" | "tohex" | "set" | "push" | "remove" | "flat" => "frame",
         "wdelay" | "due" | "wdelay30" | "due30" => "frame",
+        "ixload" | "ixquery" | "ixset" | "ixremove" => "index",
         "fold" => "ops",
         "hexdata" | "hexflat" => "hexframe",
         "v.pskc" | "v.name" => "v.pskc",

@@ -1,6 +1,6 @@
 //! The refusals by sizes, document 01's as document 02 raised them, of which the Rust knows none. The order of the tests is
-//! 01's: 1, then the Rust's 7, 8 and 2, or 9, then 3, the Rust's 4, 5, 6 with 12 among them, the Rust's 13, then 14, 10,
-//! and 11.
+//! 01's: 1, then the Rust's 7, 8 and 2, or 9, then 3, the Rust's 4, 5, 6 with 12 among them, or 02's 17, the Rust's 13, then 14,
+//! 10, and 11.
 
 use crate::answer::Refusal;
 

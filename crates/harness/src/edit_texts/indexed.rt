@@ -32,33 +32,45 @@ fn put_both(text: &mut Room, at: usize, written: Written, lent: &[u8], index: &[
     }
 }
 
-fn put_set(request: &Room, v: Values, out: &mut [u8], text: &mut Room, at: usize) -> usize {
-    let mut room = [0u8; LENT_INDEX];
+fn put_set(
+    request: &Room,
+    v: Values,
+    out: &mut [u8],
+    index: &mut [u8],
+    text: &mut Room,
+    at: usize,
+) -> usize {
     let n = lend(out, v.number(5));
-    let m = lend(&mut room, v.cap);
+    let m = lend(index, v.cap);
     let written = index_edits::set_raw(
         v.bytes(request, 3),
         v.bytes(request, 4),
         v.type_byte(1),
         v.bytes(request, 2),
         &mut out[0..n],
-        &mut room[0..m],
+        &mut index[0..m],
     );
-    put_both(text, at, written, &out[0..n], &room[0..m])
+    put_both(text, at, written, &out[0..n], &index[0..m])
 }
 
-fn put_removed(request: &Room, v: Values, out: &mut [u8], text: &mut Room, at: usize) -> usize {
-    let mut room = [0u8; LENT_INDEX];
+fn put_removed(
+    request: &Room,
+    v: Values,
+    out: &mut [u8],
+    index: &mut [u8],
+    text: &mut Room,
+    at: usize,
+) -> usize {
     let n = lend(out, v.number(4));
-    let m = lend(&mut room, v.cap);
+    let m = lend(index, v.cap);
     let written = index_edits::remove_all(
         v.bytes(request, 2),
         v.bytes(request, 3),
         v.type_byte(1),
         &mut out[0..n],
-        &mut room[0..m],
+        &mut index[0..m],
     );
-    put_both(text, at, written, &out[0..n], &room[0..m])
+    put_both(text, at, written, &out[0..n], &index[0..m])
 }
 
 // Puts the answer to a request, or nothing where it is for neither of these calls.
@@ -69,11 +81,12 @@ pub(crate) fn indexed_texts(
     text: &mut Room,
     at: usize,
 ) -> usize {
+    let mut index = [0u8; LENT_INDEX];
     if asks(request, b"ixset tbbbnn") {
-        return put_set(request, v, out, text, at);
+        return put_set(request, v, out, &mut index, text, at);
     }
     if asks(request, b"ixremove tbbnn") {
-        return put_removed(request, v, out, text, at);
+        return put_removed(request, v, out, &mut index, text, at);
     }
     at
 }

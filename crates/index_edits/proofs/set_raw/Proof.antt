@@ -1,5 +1,9 @@
 -- `index_edits::set_raw` meets its contract. Assumes nothing.
 use mathlib.Core.Path.{sym, ap, _∙_}
+use Prim.Native.Nat.{_<_}
+use native.Mathlib.Omega.{arith}
+use lib.ListN.{length}
+use Rattle.dataset_index.specs.Index.{indexSize}
 use Rattle.dataset_index.specs.Answers.{loadedAnswer}
 use Rattle.index_edits.proofs.Both.{load-stops, load-passes, no-index, edit-lies, both-left}
 use Rattle.index_edits.proofs.Updated.{set-built}
@@ -35,9 +39,11 @@ returns-2 c =
     let b = c .before .before in
     let i = b .before .before in
     let l = i .before in
+    let s = l .before .before .before .before .before .before .before .before in
+    let short : length (s .args .index .now) < indexSize = omega (arith, i .if1 .taken) in
     rw (c .no-room-for .ensures)
     (load-passes _ _ _ _ _ (sym (ap loadedAnswer (l .enum-told .given .1)) ∙ l .before .before .load .ensures) _
-    (no-index _ _ (i .if1 .taken) _ _ _ _ (b .set-raw .ensures)))
+    (no-index _ _ short _ _ _ _ (b .set-raw .ensures)))
 
 set-raw-requires-2 : tie.Need-set-raw-requires-2
 set-raw-requires-2 c κs = search needs

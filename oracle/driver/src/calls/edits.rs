@@ -3,16 +3,21 @@
 use meshcop::tlv::{TlvEntry, TlvSet};
 
 use super::lent;
-use crate::answer::Answer;
+use crate::answer::{Answer, Refusal};
 use crate::framed;
 use crate::sizes;
 
 pub fn set(ty: u8, value: Vec<u8>, bytes: &[u8], cap: u64) -> Answer {
+    lent(&with_set(ty, value, bytes)?, cap)
+}
+
+/// Refusals 1, 2, 3, 13, 10, or the dataset with the value set.
+pub fn with_set(ty: u8, value: Vec<u8>, bytes: &[u8]) -> Result<Vec<u8>, Refusal> {
     let mut dataset = framed::read_dataset(bytes)?.dataset;
     dataset.set_raw(ty, value);
     let written = framed::write_dataset(&dataset)?;
     sizes::test_result(&written, dataset.entries().len())?;
-    lent(&written, cap)
+    Ok(written)
 }
 
 /// The Rust has it of a set of entries, not of a dataset.
@@ -25,9 +30,13 @@ pub fn push(ty: u8, value: Vec<u8>, bytes: &[u8], cap: u64) -> Answer {
     lent(&written, cap)
 }
 
-/// What is left is no longer than what was read, so 10 is not tested.
 pub fn remove(ty: u8, bytes: &[u8], cap: u64) -> Answer {
+    lent(&without(ty, bytes)?, cap)
+}
+
+/// Refusals 1, 2, 3, or the dataset without the type. It is no longer than what was read, so 10 is not tested.
+pub fn without(ty: u8, bytes: &[u8]) -> Result<Vec<u8>, Refusal> {
     let mut dataset = framed::read_dataset(bytes)?.dataset;
     dataset.remove_all(ty);
-    lent(&framed::write_dataset(&dataset)?, cap)
+    framed::write_dataset(&dataset)
 }

@@ -11,6 +11,7 @@ mod delay;
 mod diagnostics;
 mod edits;
 mod framing;
+mod index;
 mod listing;
 mod nested;
 mod pairing;
@@ -22,6 +23,7 @@ mod write;
 
 pub use addresses::GROUPS;
 use diagnostics::Tables;
+pub use index::{INDEX_BYTES, INDEX_MARK, count_and_place, slot_of, stored_index};
 pub use listing::refusal_printed;
 pub use parts::VERSIONS;
 pub use records::record_words;
@@ -115,13 +117,19 @@ pub const ALL: &[Call] = &[
     Call { name: "hexflat", answer: |w| Some(listing::hexflat(&w.bytes()?, w.number()?)) },
     Call { name: "prog", answer: |w| Some(listing::prog(&w.bytes()?)) },
     Call { name: "nested", answer: |w| Some(nested::nested(&w.bytes()?, w.number()?)) },
+    Call { name: "index", answer: |w| Some(index::index(&w.bytes()?, w.number()?)) },
+    Call { name: "ixload", answer: |w| Some(index::ixload(&w.bytes()?, &w.bytes()?)) },
+    Call { name: "ixquery", answer: |w| Some(index::ixquery(w.number()?, &w.bytes()?, &w.bytes()?)) },
+    Call { name: "ixlook", answer: |w| Some(index::ixlook(w.number()?, &w.bytes()?, &w.bytes()?)) },
+    Call { name: "ixset", answer: |w| Some(index::ixset(w.number()?, w.bytes()?, &w.bytes()?, &w.bytes()?, w.number()?, w.number()?)) },
+    Call { name: "ixremove", answer: |w| Some(index::ixremove(w.number()?, &w.bytes()?, &w.bytes()?, w.number()?, w.number()?)) },
 ];
 
 /// Calls that the Rust does not have: what they answer is document 01's or 02's, over what the Rust, or its standard
 /// library, reads.
 pub const NOT_IN_THE_RUST: &[&str] = &[
     "ops", "fold", "fold2", "pair", "write", "addrtext", "textaddr", "wdelay", "due", "wdelay30", "due30", "template",
-    "flat", "hexflat", "prog", "nested",
+    "flat", "hexflat", "prog", "nested", "index", "ixload", "ixquery", "ixlook", "ixset", "ixremove",
 ];
 
 fn tables(words: &mut Words) -> Option<Tables> {

@@ -2,6 +2,7 @@
 
 use super::about::some_most_bytes;
 use crate::answer::{Found, Reply, reply};
+use crate::calls::INDEX_BYTES;
 use crate::random::Random;
 use crate::sizes::MOST_BYTES;
 
@@ -84,7 +85,9 @@ pub fn need_of_fields(fields: &str) -> Option<u64> {
     Some(bytes_in(&answer_to(format!("write {} {fields}", u64::MAX))?))
 }
 
-fn bytes_in(word: &str) -> u64 {
+/// Of two outputs, the first.
+fn bytes_in(answer: &str) -> u64 {
+    let word = answer.split(' ').next().unwrap_or_default();
     if word == "-" { 0 } else { word.len() as u64 / 2 }
 }
 
@@ -93,6 +96,49 @@ fn answer_to(request: String) -> Option<String> {
         Reply::Answered(Ok(Found::Value(answer))) => Some(answer),
         _ => None,
     }
+}
+
+/// The words, and after them random caps of an edited dataset and of its index.
+pub fn with_caps_of_both(random: &mut Random, call: &str, words: &str) -> String {
+    let cap = random_cap(random, need_beside_index(call, words));
+    let index_cap = match random.below(10) {
+        0..=6 => INDEX_BYTES,
+        7 => INDEX_BYTES - 1,
+        8 => random.pick(&[0, INDEX_BYTES + 1, 2_000]),
+        _ => random.below(2 * INDEX_BYTES),
+    };
+    format!("{words} {cap} {index_cap}")
+}
+
+/// The words with the caps of both outputs at each edge.
+pub fn with_each_edge_of_both(call: &str, words: &str) -> Vec<String> {
+    edges_of_both(call, words).iter().map(|(cap, index_cap)| format!("{words} {cap} {index_cap}")).collect()
+}
+
+/// Each of the words with one of the edges of both its caps, in turn.
+pub fn with_edges_of_both_in_turn(call: &str, all_words: &[String]) -> Vec<String> {
+    let with_one = |(turn, words): (usize, &String)| {
+        let edges = edges_of_both(call, words);
+        let (cap, index_cap) = edges[turn % edges.len()];
+        format!("{words} {cap} {index_cap}")
+    };
+    all_words.iter().enumerate().map(with_one).collect()
+}
+
+/// Just enough of both, one too few in either or in both, one too many, nothing, and much; where the call refuses whatever
+/// is lent, the last.
+fn edges_of_both(call: &str, words: &str) -> Vec<(u64, u64)> {
+    let index = INDEX_BYTES as u64;
+    let Some(need) = need_beside_index(call, words) else {
+        return vec![(MUCH, MUCH), (0, 0), (0, index), (MUCH, index - 1)];
+    };
+    let fewer = need.saturating_sub(1);
+    let about = [(need, index), (fewer, index), (need, index - 1), (fewer, index - 1), (need + 1, index + 1)];
+    [&about[..], &[(need, 0), (0, index), (0, 0), (MUCH, 2_000)]].concat()
+}
+
+fn need_beside_index(call: &str, words: &str) -> Option<u64> {
+    need_of(call, &format!("{words} {}", u64::MAX))
 }
 
 /// The words, and after them random sizes of the tables of prefixes, HasRoute and BorderRouter rows.

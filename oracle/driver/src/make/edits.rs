@@ -65,12 +65,18 @@ const SHORT: &[Family] = &[
     Family { size: 256, words: |ty| format!("{ty} 44 03014107000c00 {}", 8 + ty % 4) },
 ];
 
-fn set_words(ty: u8, value: &[u8], dataset: &[u8]) -> String {
+pub fn set_words(ty: u8, value: &[u8], dataset: &[u8]) -> String {
     format!("{ty} {} {}", bytes_word(value), bytes_word(dataset))
 }
 
 fn random_set(random: &mut Random, call: &str) -> String {
-    let words = match random.below(600) {
+    let words = some_set(random);
+    with_cap(random, call, &words)
+}
+
+/// A type, a value and a dataset to set it in.
+pub fn some_set(random: &mut Random) -> String {
+    match random.below(600) {
         0 => huge_set(random),
         1..=10 => set_near_most_bytes(random),
         11..=90 => set_near_most_entries(random),
@@ -79,8 +85,7 @@ fn random_set(random: &mut Random, call: &str) -> String {
             let value = value(random, ty);
             set_words(ty, &value, &typed_dataset(random, ty))
         }
-    };
-    with_cap(random, call, &words)
+    }
 }
 
 pub fn some_type(random: &mut Random) -> u8 {
@@ -129,14 +134,19 @@ fn set_near_most_entries(random: &mut Random) -> String {
     set_words(ty, &value, &dataset)
 }
 
-fn set_edges(random: &mut Random, call: &str) -> Vec<String> {
+/// Types, values and datasets to set them in, about each boundary.
+pub fn some_set_edges(random: &mut Random) -> Vec<String> {
     let mut all_words = set_value_edges(random);
     all_words.extend(set_size_edges(random));
     for words in with_types(&dataset_edges(random)) {
         let (ty, dataset) = words.split_once(' ').expect("two words");
         all_words.push(format!("{ty} {} {dataset}", bytes_word(&random.bytes(2))));
     }
-    let mut edges = with_edge_caps_in_turn(call, &all_words);
+    all_words
+}
+
+fn set_edges(random: &mut Random, call: &str) -> Vec<String> {
+    let mut edges = with_edge_caps_in_turn(call, &some_set_edges(random));
     let longest = value_to_fill(random, 3, &[7, 0], MOST_BYTES);
     edges.extend(with_each_edge_cap(call, &set_words(3, &longest, &[7, 0])));
     edges.extend(with_each_edge_cap(call, &set_words(3, &random.bytes(65_536), &[7, 0])));

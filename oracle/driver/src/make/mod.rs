@@ -23,6 +23,9 @@ mod edits;
 mod field_faults;
 mod fields;
 mod framing;
+mod index;
+mod index_edges;
+mod indexes;
 mod listing;
 mod lists;
 mod masks;
@@ -139,6 +142,12 @@ const MAKERS: &[Maker] = &[
     listing::HEXFLAT,
     listing::PROG,
     nested::NESTED,
+    index::INDEX,
+    index::IXLOAD,
+    index::IXQUERY,
+    index::IXLOOK,
+    index::IXSET,
+    index::IXREMOVE,
 ];
 
 /// Where a request comes from.
