@@ -2,15 +2,14 @@
 -- Assumes nothing.
 use mathlib.Core.Path.{_≡_, refl, sym, ap, ap₂, _∙_, fun-ext}
 use mathlib.Core.Bool.{true, false}
-use mathlib.Core.List.{List, [], _∷_, _++_, append-nil, map}
-use Prim.Native.Nat.{ℕ, suc, _+_, _*_, _≤_, _<_}
+use mathlib.Core.List.{List, [], _++_, append-nil, map}
+use Prim.Native.Nat.{ℕ, _+_, _*_, _≤_, _<_}
 use native.Mathlib.Omega.{arith}
 use native.Mathlib.Nat.{zero-add}
 use lib.ListN.{length, getD, length-append, length-map, replicate}
 use borrow.Author.Tests.{le-ltb}
 use Rattle.refusal.specs.Sizes.{mostBytes, mostEntries}
 use Rattle.refusal.specs.Answer.{Answer, given, absent, refused, onGiven, thenDo}
-use Rattle.refusal.specs.Every.{Bytes}
 use Rattle.refusal.specs.Output.{Output, emit, put}
 use Rattle.laws.proofs.Parts.{every-append, every-byte}
 use Rattle.laws.proofs.Puts.{put-then}

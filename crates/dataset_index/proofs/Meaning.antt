@@ -1,27 +1,27 @@
 -- What the index says, held against request Seven's sentences.
 -- Assumes nothing.
 use mathlib.Core.Path.{_≡_, refl, sym, ap, _∙_, subst}
-use mathlib.Core.Bool.{Bool, true, false}
+use mathlib.Core.Bool.{true, false}
 use mathlib.Core.List.{List, [], _∷_, map}
-use Prim.Native.Nat.{ℕ, zero, suc, _+_, _≤_, _<_}
+use Prim.Native.Nat.{ℕ, zero, suc, _+_, _<_}
 use native.Mathlib.Omega.{arith}
-use lib.ListN.{length, getD, take, drop}
+use lib.ListN.{length, drop}
 use lib.Dec.{eqb, ltb}
 use borrow.Author.Tests.{eqb-true}
 use Rattle.refusal.specs.Sizes.{mostBytes, mostEntries}
 use Rattle.refusal.specs.Answer.{pick, Answer, given, absent, refused, onGiven, thenDo}
 use Rattle.laws.proofs.Tests.{by-test, pick-all}
 use Rattle.laws.proofs.Answers.{gives}
-use Rattle.tlv.specs.Entries.{First, none, cut, one, first, Entry, entry, Stop, clean, cutAt, framing}
+use Rattle.tlv.specs.Entries.{First, none, cut, one, first, Entry, clean, framing}
 use Rattle.tlv.specs.Limits.{placeOfNext, limited, framed}
 use Rattle.tlv.specs.Answers.{headerOf}
 use Rattle.tlv.proofs.Follows.{Beside, framing-follows, headers-beside, headers-take, whole-length}
-use Rattle.tlv_last.specs.Last.{Spot, spotAt, spot, lastOf, lastEntry, lastSpot, lastValue, valueOr}
+use Rattle.tlv_last.specs.Last.{Spot, spotAt, spot, lastOf, lastEntry, lastSpot, lastValue}
 use Rattle.tlv_last.proofs.Lasts.{spot-part, spot-none}
-use Rattle.dataset_index.specs.Index.{howMany, placeOr0, lastPlace, slots, indexBytes, indexSize, built, sameBytes, loaded}
+use Rattle.dataset_index.specs.Index.{howMany, placeOr0, lastPlace, slots, indexBytes, built, sameBytes, loaded}
 use Rattle.dataset_index.specs.Query.{countIn, placeIn, isFramed, spotIn, byIndex, partOr, valueByIndex}
 use Rattle.dataset_index.proofs.Loads.{same-self, same-equal, same-not}
-use Rattle.dataset_index.proofs.Queries.{given-are, given-short, stored-count, stored-place, index-framed, found-by-index}
+use Rattle.dataset_index.proofs.Queries.{given-are, stored-count, stored-place, index-framed, found-by-index}
 
 -- ---- what loads
 module _ (s x : List ℕ) where

@@ -1,7 +1,7 @@
 -- "a query by index equals the query by walk" (document 02, Seven), and what the steps of the query find, whatever the index.
 -- Assumes nothing.
 use mathlib.Core.Path.{_≡_, refl, sym, ap, _∙_}
-use mathlib.Core.Bool.{Bool, true, false}
+use mathlib.Core.Bool.{true, false}
 use mathlib.Core.List.{List, [], _∷_}
 use mathlib.Core.Logic.{⊎-elim}
 use types.Run.{OneOf}
@@ -26,7 +26,7 @@ use Rattle.tlv.specs.declared.Frame.the-variants as f
 use Rattle.tlv.proofs.Frame
 use Rattle.tlv.proofs.Walks.{Agree, frame-agrees, Inside, inside, Lies, framing-lies}
 use Rattle.tlv.proofs.Whole.{framed-whole}
-use Rattle.tlv_last.specs.Last.{Spot, spotAt, spot, lastOf, lastEntry, lastSpot}
+use Rattle.tlv_last.specs.Last.{Spot, spotAt, spot, lastOf}
 use Rattle.tlv_last.proofs.Lasts.{Other, over-others, absent-none}
 use Rattle.dataset_index.specs.Index.{howMany, placeOr0, lastPlace, slots, indexBytes, indexSize}
 use Rattle.dataset_index.specs.Query.{countIn, placeIn, isFramed, spotIn, byIndex, partOr, valueByIndex}

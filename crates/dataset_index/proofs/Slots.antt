@@ -1,8 +1,8 @@
 -- The bytes of an index: one type after the other, and how many they are.
 -- Assumes nothing.
-use mathlib.Core.Path.{_≡_, refl, sym, ap, _∙_}
+use mathlib.Core.Path.{_≡_, refl, sym, _∙_}
 use mathlib.Core.List.{List, [], _∷_, _++_}
-use Prim.Native.Nat.{ℕ, zero, suc, _+_, _-_, _*_, _≤_, _<_}
+use Prim.Native.Nat.{ℕ, zero, suc, _+_, _-_, _*_, _≤_}
 use native.Mathlib.Omega.{arith}
 use native.Mathlib.Numerals.{add-one}
 use lib.ListN.{length, getD, set, length-append}
@@ -10,9 +10,11 @@ use Rattle.refusal.specs.Output.{put}
 use Rattle.laws.proofs.Puts.{put-byte}
 use Rattle.wire_bytes.specs.Bytes.{bytesOf}
 use Rattle.wire.proofs.Round.{length-bytes}
+use borrow.Author.Tests.{lt-ltb}
+use Rattle.refusal.specs.Sizes.{mostBytes}
 use Rattle.refusal.specs.Answer.{given, refused}
 use Rattle.tlv.specs.Entries.{Entry, framing}
-use Rattle.tlv.specs.Limits.{count}
+use Rattle.tlv.specs.Limits.{count, framed}
 use Rattle.tlv.proofs.Tally.{answers-given, answers-refused}
 use Rattle.dataset_index.specs.Index.{howMany, lastPlace, slots, indexBytes, indexSize, built}
 use Rattle.dataset_index.specs.Loops.{Indexed, slotsIn}
@@ -54,7 +56,11 @@ unfolding indexBytes
 index-put x s i out left w =
     w ∙ rw (slots-are x s i 256 0 (omega arith)) (sym (marked out (slots 0 256 (framing s .entries)) 0x49 0x58))
 
--- ---- what `build` answers, by what `count_entries` did
+-- ---- what `build` answers, by the size of the dataset and by what the walk said of its entries
+pub built-large : (s : List ℕ) → mostBytes < length s → refused 1 0 0 ≡ built s
+unfolding built framed
+built-large s h = simp (lt-ltb _ _ h)
+
 pub built-given : (s : List ℕ) (n : ℕ) → given n ≡ count 0 s → built s ≡ given (indexBytes (framing s .entries))
 unfolding built
 built-given s n e = answers-given 0 indexBytes s n e

@@ -14,6 +14,8 @@ ghost use Rattle.refusal.specs.Answer.{pick, given, refused};
 ghost use Rattle.refusal.specs.Output.{output, emit, put, writtenAnswer};
 ghost use Rattle.wire_bytes.specs.Bytes.{bytesOf};
 ghost use Rattle.tlv.specs.Entries.{first};
+ghost use Rattle.tlv.specs.Limits.{count};
+ghost use Rattle.tlv.specs.Answers.{countedAnswer};
 ghost use Rattle.tlv_last.specs.Answers.{foundAnswer};
 ghost use Rattle.dataset_index.specs.Index.{indexSize, built, loaded};
 ghost use Rattle.dataset_index.specs.Query.{twoAt, isFramed, spotIn, byIndex, valueByIndex};
@@ -42,27 +44,43 @@ pub enum Loaded {
     Refused(Refusal),
 }
 
+// What one pass over the entries gives: the table, and how many they are, or 2 or 3.
+struct Collected {
+    table: Table,
+    counted: Counted,
+}
+
 // One pass over the entries.
-fn collect(s: &[u8]) -> Table
+fn collect(s: &[u8]) -> Collected
     requires { ⌜ length (now s) ≤ mostBytes ⌝ }
-    ensures { λ r. ⌜ Indexed r (now (s .entry)) ⌝ }
+    ensures { λ r. ⌜ Indexed (r .table) (now (s .entry)) × (countedAnswer (r .counted) ≡ count 0 (now (s .entry))) ⌝ }
 {
-    let mut x = Table {
+    let mut table = Table {
         count: [0u16; 256],
         place: [0u16; 256],
     };
     let mut at: usize = 0;
+    let mut n: usize = 0;
+    let mut over: usize = 0;
     loop {
         match tlv::frame_at(s, at) {
             Frame::Entry { ty, start, len } => {
-                let next = start + len;
                 let t = ty as usize;
-                x.count[t] += 1;
-                x.place[t] = at as u16;
-                at = next;
+                table.count[t] += 1;
+                table.place[t] = at as u16;
+                if n == refusal::MAX_ENTRIES {
+                    over = at;
+                }
+                n += 1;
+                at = start + len;
             }
-            _ => {
-                return x;
+            Frame::Cut => {
+                let counted = tlv::stopped(true, at, n, over, 0);
+                return Collected { table, counted };
+            }
+            Frame::End => {
+                let counted = tlv::stopped(false, at, n, over, 0);
+                return Collected { table, counted };
             }
         }
     }
@@ -95,16 +113,20 @@ fn put_slots(x: Table, out: &mut [u8])
 pub fn build(dataset: &[u8], out: &mut [u8]) -> Written
     ensures { λ r. ⌜ output (writtenAnswer r) (now (out .exit)) ≡ emit (built (now (dataset .entry))) (now (out .entry)) ⌝ }
 {
-    match tlv::count_entries(dataset, 0) {
+    if dataset.len() > refusal::MAX_BYTES {
+        return refusal::refuse(Fault::TooLarge, 0);
+    }
+    let walk = collect(dataset);
+    let counted = walk.counted;
+    match counted {
         Counted::Refused(r) => Written::Refused(r),
         Counted::Entries(_) => {
             if out.len() < INDEX_BYTES {
                 return refusal::refuse(Fault::NoRoom, 0);
             }
-            let table = collect(dataset);
             out[0] = 0x49;
             out[1] = 0x58;
-            put_slots(table, out);
+            put_slots(walk.table, out);
             Written::Bytes(INDEX_BYTES)
         }
     }

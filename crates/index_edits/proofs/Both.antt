@@ -9,7 +9,7 @@ use lib.Seq.{take-at}
 use lib.Dec.{ltb}
 use borrow.Author.Tests.{lt-ltb, le-ltb}
 use Rattle.refusal.specs.Answer.{Answer, given, absent, refused}
-use Rattle.refusal.specs.Output.{Output, output, emit}
+use Rattle.refusal.specs.Output.{output, emit}
 use Rattle.laws.proofs.Tests.{by-test}
 use Rattle.laws.proofs.Callers.{answers, lefts, gave-inside}
 use Rattle.tlv.specs.Entries.{framing}

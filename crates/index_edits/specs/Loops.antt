@@ -4,7 +4,7 @@ use Prim.Native.Nat.{ℕ, _≤_}
 use mathlib.Core.List.{List}
 use lib.ListN.{length, take}
 use Rattle.refusal.specs.Answer.{Answer, given, absent, refused}
-use Rattle.refusal.specs.Output.{Output, emit}
+use Rattle.refusal.specs.Output.{emit}
 use Rattle.dataset_index.specs.Index.{built}
 
 -- 11 where an edit could be written, and its own refusal where it could not

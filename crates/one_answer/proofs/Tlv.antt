@@ -19,6 +19,10 @@ parse-one x r q left over = both (x .𝓤) _ _ _ (λ e f. (parsed-tells r q (e �
 pub count-entries : One Rattle.tlv.proofs.count_entries.ended (λ M. Rattle.tlv.proofs.count_entries.clauses)
 count-entries x r q left over = both (x .𝓤) _ _ _ (λ e f. (counted-tells r q (e ∙ sym f), refl))
 
+-- tlv::stopped
+pub stopped : One Rattle.tlv.proofs.stopped.ended (λ M. Rattle.tlv.proofs.stopped.clauses)
+stopped x r q left over = both (x .𝓤) _ _ _ (λ e f. (counted-tells r q (e ∙ sym f), refl))
+
 -- tlv_last::last_entry
 pub last-entry : One Rattle.tlv_last.proofs.last_entry.ended (λ M. Rattle.tlv_last.proofs.last_entry.clauses)
 last-entry x r q left over = both (x .𝓤) _ _ _ (λ e f. (found-tells r q (e ∙ sym f), refl))

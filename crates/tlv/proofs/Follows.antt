@@ -9,8 +9,8 @@ use lib.ListN.{length, take, drop, length-drop}
 use lib.Seq.{length-take-le}
 use lib.Dec.{leb, eqb}
 use borrow.Author.Tests.{leb-true}
-use Rattle.laws.proofs.Tests.{by-test, pick-all}
-use Rattle.tlv.specs.Entries.{First, none, cut, one, valued, long, marker, first, Entry, entry, clean, Framing, step, frames, framing}
+use Rattle.laws.proofs.Tests.{pick-all}
+use Rattle.tlv.specs.Entries.{First, none, cut, one, valued, long, marker, first, Entry, clean, Framing, step, frames, framing}
 use Rattle.tlv.specs.Answers.{Head, headerOf}
 
 -- ---- what stands first takes the bytes up to the rest

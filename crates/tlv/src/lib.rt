@@ -116,8 +116,8 @@ fn refuse(fault: Fault, place: usize, input: u8) -> Counted
     })
 }
 
-// What the walk answers where it ends, n entries passed: 2 at a cut entry's place, then 3 at the place of the first past the most, over.
-fn stopped(cut: bool, at: usize, n: usize, over: usize, input: u8) -> Counted
+// What a walk over entries answers where it ends, n of them passed: 2 at a cut entry's place, then 3 at the place of the first past the most, over.
+pub fn stopped(cut: bool, at: usize, n: usize, over: usize, input: u8) -> Counted
     ensures { λ r. ⌜ countedAnswer r ≡ pick cut (refused 2 at input) (pick (ltb mostEntries n) (refused 3 over input) (given n)) ⌝ }
 {
     let many = n > refusal::MAX_ENTRIES;

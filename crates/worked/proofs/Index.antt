@@ -1,11 +1,10 @@
 -- Worked lines of the index: of datasets, of edited ones, and the order of refusals, computed from the definitions.
 -- Assumes nothing.
 use mathlib.Core.Path.{_≡_, refl}
-use mathlib.Core.Bool.{not}
 use mathlib.Core.List.{List, [], _∷_}
 use Prim.Native.Nat.{ℕ, _*_}
 use lib.ListN.{replicate}
-use Rattle.refusal.specs.Answer.{Answer, given, absent, refused, onGiven, thenDo}
+use Rattle.refusal.specs.Answer.{Answer, given, refused, onGiven, thenDo}
 use Rattle.refusal.specs.Every.{Every}
 use Rattle.tlv.specs.Entries.{Entry, valued, long, first, step, frames, framing, contents}
 use Rattle.tlv.specs.Limits.{limited, framed}

@@ -1,5 +1,4 @@
 -- `dataset_index::entry_at` meets its contract. Assumes nothing.
-use mathlib.Core.Path.{sym, ap, _∙_}
 use Rattle.dataset_index.proofs.Queries.{entry-hit, entry-miss, entry-none}
 use borrow.Author.Needs.{needs}
 use Rattle.dataset_index.proofs.entry_at.Statement.{statement}

@@ -1,8 +1,7 @@
 -- `index_edits::put_index` meets its contract. Assumes nothing.
-use mathlib.Core.Path.{refl, sym, ap, _∙_}
+use mathlib.Core.Path.{sym, ap, _∙_}
 use lib.Seq.{length-take-le}
 use Rattle.refusal.specs.Output.{Output, writtenAnswer}
-use Rattle.index_edits.specs.Loops.{Lies, indexed}
 use borrow.Author.Needs.{needs}
 use Rattle.index_edits.proofs.put_index.Statement.{statement}
 use Rattle.index_edits.proofs.put_index.Tie as tie
