@@ -32,7 +32,7 @@ fn put_both(text: &mut Room, at: usize, written: Written, lent: &[u8], index: &[
     }
 }
 
-fn put_set(
+fn put_set_with_index(
     request: &Room,
     v: Values,
     out: &mut [u8],
@@ -53,7 +53,7 @@ fn put_set(
     put_both(text, at, written, &out[0..n], &index[0..m])
 }
 
-fn put_removed(
+fn put_removed_with_index(
     request: &Room,
     v: Values,
     out: &mut [u8],
@@ -83,10 +83,10 @@ pub(crate) fn indexed_texts(
 ) -> usize {
     let mut index = [0u8; LENT_INDEX];
     if asks(request, b"ixset tbbbnn") {
-        return put_set(request, v, out, &mut index, text, at);
+        return put_set_with_index(request, v, out, &mut index, text, at);
     }
     if asks(request, b"ixremove tbbnn") {
-        return put_removed(request, v, out, &mut index, text, at);
+        return put_removed_with_index(request, v, out, &mut index, text, at);
     }
     at
 }
