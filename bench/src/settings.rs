@@ -23,8 +23,8 @@ const ASKED: [u8; 12] = [
     TLV_CHANNEL_MASK,
 ];
 
-/// Their entries, each with the length of its value, in the order in which they stand. Six types stand twice, and the two whose length is free have another
-/// one then, so that the answer tells which was found.
+/// Their entries, each with the length of its value, in the order in which they stand. Six types stand twice, and the name and the mask have another length
+/// then, so that the answer tells which of the two was found.
 const SETTINGS: [(u8, u8); 18] = [
     (TLV_CHANNEL, 3),
     (TLV_NETWORK_NAME, 16),
@@ -72,7 +72,7 @@ fn dataset(size: usize) -> Vec<u8> {
     bytes
 }
 
-/// The answers as one number: the lengths of the values that are found, each weighed by its type, so that no two can be exchanged unseen.
+/// The answers as one number: the lengths of the values that are found, each weighed by its type.
 pub fn twelve(len: impl Fn(u8) -> u64) -> u64 {
     ASKED.iter().map(|&ty| (1 + u64::from(ty)) * len(ty)).sum()
 }

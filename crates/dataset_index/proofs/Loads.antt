@@ -11,29 +11,12 @@ use borrow.Author.Tests.{eq-eqb, eqb-true}
 use Rattle.refusal.specs.Answer.{pick, given, refused}
 use Rattle.refusal.specs.Output.{output, emit}
 use Rattle.laws.proofs.Tests.{by-test}
+use Rattle.laws.proofs.Same.{same-self, same-not}
 use Rattle.laws.proofs.Answers.{gives}
 use Rattle.laws.proofs.Callers.{gave, Refuses, itself, no-room, refuses}
 use Rattle.tlv.specs.Limits.{framed}
-use Rattle.dataset_index.specs.Index.{indexBytes, indexSize, built, sameBytes, loaded}
+use Rattle.dataset_index.specs.Index.{indexBytes, indexSize, built, loaded}
 use Rattle.dataset_index.proofs.Slots.{index-length}
-
-pub same-self : (xs : List ℕ) → sameBytes xs xs ≡ true
-unfolding sameBytes
-same-self [] = refl
-same-self (x ∷ xs) = rw (eq-eqb x x refl) (same-self xs)
-
-pub same-equal : (xs ys : List ℕ) → sameBytes xs ys ≡ true → xs ≡ ys
-unfolding sameBytes
-same-equal [] [] h = refl
-same-equal [] (y ∷ ys) h = absurd (let z : _≡_ {A = ℕ} 0 1 = cc in omega arith)
-same-equal (x ∷ xs) [] h = absurd (let z : _≡_ {A = ℕ} 0 1 = cc in omega arith)
-same-equal (x ∷ xs) (y ∷ ys) h =
-    by-test (eqb x y)
-    (λ t. let a : x ≡ y = eqb-true x y t in let b : xs ≡ ys = same-equal xs ys (simp t at h) in rw (a, b))
-    (λ t. absurd (let k : false ≡ true = simp t at h in let z : _≡_ {A = ℕ} 0 1 = cc in omega arith))
-
-pub same-not : (xs ys : List ℕ) → (xs ≡ ys → ⊥) → sameBytes xs ys ≡ false
-same-not xs ys h = by-test (sameBytes xs ys) (λ t. absurd (h (same-equal xs ys t))) (λ t. t)
 
 pub built-length : (s bs : List ℕ) → built s ≡ given bs → length bs ≡ indexSize
 unfolding built

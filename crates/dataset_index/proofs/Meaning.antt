@@ -10,17 +10,18 @@ use lib.Dec.{eqb, ltb}
 use borrow.Author.Tests.{eqb-true}
 use Rattle.refusal.specs.Sizes.{mostBytes, mostEntries}
 use Rattle.refusal.specs.Answer.{pick, Answer, given, absent, refused, onGiven, thenDo}
+use Rattle.refusal.specs.Each.{same}
 use Rattle.laws.proofs.Tests.{by-test, pick-all}
+use Rattle.laws.proofs.Same.{same-self, same-true, same-not}
 use Rattle.laws.proofs.Answers.{gives}
 use Rattle.tlv.specs.Entries.{First, none, cut, one, first, Entry, clean, framing}
 use Rattle.tlv.specs.Limits.{placeOfNext, limited, framed}
 use Rattle.tlv.specs.Answers.{headerOf}
 use Rattle.tlv.proofs.Follows.{Beside, framing-follows, headers-beside, headers-take, whole-length}
 use Rattle.tlv_last.specs.Last.{Spot, spotAt, spot, lastOf, lastEntry, lastSpot, lastValue}
-use Rattle.tlv_last.proofs.Lasts.{spot-part, spot-none}
-use Rattle.dataset_index.specs.Index.{howMany, placeOr0, lastPlace, slots, indexBytes, built, sameBytes, loaded}
+use Rattle.tlv_last.proofs.Lasts.{found-all, spot-part, spot-none}
+use Rattle.dataset_index.specs.Index.{howMany, placeOr0, lastPlace, slots, indexBytes, built, loaded}
 use Rattle.dataset_index.specs.Query.{countIn, placeIn, isFramed, spotIn, byIndex, partOr, valueByIndex}
-use Rattle.dataset_index.proofs.Loads.{same-self, same-equal, same-not}
 use Rattle.dataset_index.proofs.Queries.{given-are, stored-count, stored-place, index-framed, found-by-index}
 
 -- ---- what loads
@@ -31,10 +32,10 @@ module _ (s x : List ℕ) where
   load-exactly h = by (built s) refl h
     where
       by : (a : Answer (List ℕ)) → built s ≡ a
-          → _≡_ {A = Answer (Unit {0})} (thenDo a (λ (ix : List ℕ). pick (sameBytes ix x) (given (tt {0})) (refused 17 0 1))) (given (tt {0})) → built s ≡ given x
+          → _≡_ {A = Answer (Unit {0})} (thenDo a (λ (ix : List ℕ). pick (same ix x) (given (tt {0})) (refused 17 0 1))) (given (tt {0})) → built s ≡ given x
       by (given ix) e k =
-          by-test (sameBytes ix x)
-          (λ t. e ∙ ap given (same-equal ix x t))
+          by-test (same ix x)
+          (λ t. e ∙ ap given (same-true ix x t))
           (λ t. absurd (let z : _≡_ {A = Answer (Unit {0})} (refused 17 0 1) (given (tt {0})) = simp t at k in let z : _≡_ {A = ℕ} 0 1 = cc in omega arith))
       by absent e k = absurd (let z : _≡_ {A = ℕ} 0 1 = cc in omega arith)
       by (refused n p i) e k = absurd (let z : _≡_ {A = ℕ} 0 1 = cc in omega arith)
@@ -95,6 +96,23 @@ module _ (s x : List ℕ) where
           part-is absent h = sym (spot-none s ty absent h (λ e k. let z : _≡_ {A = ℕ} 0 1 = cc in omega arith))
           part-is (refused n p i) h = sym (spot-none s ty (refused n p i) h (λ e k. let z : _≡_ {A = ℕ} 0 1 = cc in omega arith))
 
+-- an entry, or none
+abbrev Calm : Answer Entry → Type 0
+Calm (given e) = Unit {0}
+Calm absent = Unit {0}
+Calm (refused n p i) = ⊥
+
+calm-not : (x : Answer Entry) → Calm x → (n p i : ℕ) → onGiven spot x ≡ refused n p i → ⊥
+calm-not (given e) c n p i h = let z : _≡_ {A = ℕ} 0 1 = cc in omega arith
+calm-not absent c n p i h = let z : _≡_ {A = ℕ} 0 1 = cc in omega arith
+calm-not (refused m q j) c n p i h = absurd c
+
+-- so that a refusal says that the index is not the dataset's
+pub refused-stale : (ty : ℕ) (s x : List ℕ) → ty < 256 → (n p i : ℕ) → byIndex ty s x ≡ refused n p i → loaded s x ≡ given tt → ⊥
+refused-stale ty s x small n p i e loads =
+    held s x loads (λ (y : List ℕ). byIndex ty s y ≡ refused n p i → ⊥)
+    (λ es fine k. calm-not (lastOf ty absent es) (found-all Calm (λ a. tt) ty absent es tt) n p i (sym (found-by-index ty s es small fine) ∙ k)) e
+
 -- for every list of bytes, refusals too: what is built and then asked is what the walk answers
 pub built-then-asked : (ty : ℕ) (s : List ℕ) → ty < 256 → thenDo (built s) (byIndex ty s) ≡ lastSpot ty 0 s
 unfolding built lastSpot lastEntry
@@ -105,8 +123,9 @@ built-then-asked ty s small = by (framed 0 s) refl
     by absent e = refl
     by (refused n p i) e = refl
 
--- ---- any index whatever: what a query hands out is an entry of the type that begins at that place of the dataset
-pub record Begins (ty p a n : ℕ) (s : List ℕ) : Type 0 where
+-- ---- any index whatever: what a query hands out is an entry of the type, which begins at the place that the index has for it
+pub record Begins (ty : ℕ) (s x : List ℕ) (p a n : ℕ) : Type 0 where
+  pub named : p ≡ placeIn x ty
   pub header : ℕ
   pub value : List ℕ
   pub rest : List ℕ
@@ -114,27 +133,28 @@ pub record Begins (ty p a n : ℕ) (s : List ℕ) : Type 0 where
   pub starts : a ≡ p + header
   pub long : n ≡ length value
 
-abbrev IfFound : (ty : ℕ) → List ℕ → Answer Spot → Type 0
-IfFound ty s (given e) = Begins ty (e .place) (e .start) (e .len) s
-IfFound ty s absent = Unit {0}
-IfFound ty s (refused n p i) = Unit {0}
+module _ (ty : ℕ) (s x : List ℕ) where
+  abbrev IfFound : Answer Spot → Type 0
+  IfFound (given e) = Begins ty s x (e .place) (e .start) (e .len)
+  IfFound absent = Unit {0}
+  IfFound (refused n p i) = Unit {0}
 
-begins-by : (ty p : ℕ) (s : List ℕ) (x : First) → first (drop p s) ≡ x → IfFound ty s (spotIn ty p x)
-unfolding spotIn
-begins-by ty p s none e = tt
-begins-by ty p s cut e = tt
-begins-by ty p s (one t h v rest) e =
-    pick-all (IfFound ty s) (eqb t ty) _ _
-    (λ k. record { header = h; value = v; rest = rest; stands = e ∙ rw (eqb-true t ty k); starts = refl; long = refl }) (λ k. tt)
+  begins-by : (y : First) → first (drop (placeIn x ty) s) ≡ y → IfFound (spotIn ty (placeIn x ty) y)
+  unfolding spotIn
+  begins-by none e = tt
+  begins-by cut e = tt
+  begins-by (one t h v rest) e =
+      pick-all IfFound (eqb t ty) _ _
+      (λ k. record { named = refl; header = h; value = v; rest = rest; stands = e ∙ rw (eqb-true t ty k); starts = refl; long = refl }) (λ k. tt)
 
-pub never-another : (ty : ℕ) (s x : List ℕ) (p a n : ℕ) → byIndex ty s x ≡ given (spotAt p a n) → Begins ty p a n s
-unfolding byIndex
-never-another ty s x p a n e =
-    subst (IfFound ty s) e
-    (pick-all (IfFound ty s) (ltb mostBytes (length s)) _ _ (λ k. tt) (λ k.
-    pick-all (IfFound ty s) (isFramed x) _ _
-    (λ t. pick-all (IfFound ty s) (eqb (countIn x ty) 0) _ _ (λ u. tt) (λ u. begins-by ty (placeIn x ty) s (first (drop (placeIn x ty) s)) refl))
-    (λ t. tt)))
+  pub never-another : (p a n : ℕ) → byIndex ty s x ≡ given (spotAt p a n) → Begins ty s x p a n
+  unfolding byIndex
+  never-another p a n e =
+      subst IfFound e
+      (pick-all IfFound (ltb mostBytes (length s)) _ _ (λ k. tt) (λ k.
+      pick-all IfFound (isFramed x) _ _
+      (λ t. pick-all IfFound (eqb (countIn x ty) 0) _ _ (λ u. tt) (λ u. begins-by (first (drop (placeIn x ty) s)) refl))
+      (λ t. tt)))
 
 -- ---- "the same headers in the same order" give the same index, or the same refusal
 many-beside : (ty : ℕ) (es fs : List Entry) → Beside es fs → howMany ty es ≡ howMany ty fs

@@ -16,7 +16,7 @@ use Rattle.refusal.specs.Sizes.{mostBytes, mostEntries}
 use Rattle.refusal.specs.Answer.{pick, Answer, given, absent, refused, onGiven}
 use Rattle.refusal.specs.Every.{Every}
 use Rattle.laws.proofs.Tests.{by-test, pick-all}
-use Rattle.laws.proofs.Parts.{length-part}
+use Rattle.laws.proofs.Parts.{length-part, every-map}
 use Rattle.wire_bytes.specs.Bytes.{bytesOf}
 use Rattle.tlv.specs.Entries.{First, none, cut, one, first, Entry, step, frames, framing}
 use Rattle.tlv.specs.Place.{frameAt}
@@ -27,10 +27,14 @@ use Rattle.tlv.proofs.Frame
 use Rattle.tlv.proofs.Walks.{Agree, frame-agrees, Inside, inside, Lies, framing-lies}
 use Rattle.tlv.proofs.Whole.{framed-whole}
 use Rattle.tlv_last.specs.Last.{Spot, spotAt, spot, lastOf}
-use Rattle.tlv_last.proofs.Lasts.{Other, over-others, absent-none}
+use Rattle.tlv_last.proofs.Lasts.{Other, over-others, absent-none, last-holds}
 use Rattle.dataset_index.specs.Index.{howMany, placeOr0, lastPlace, slots, indexBytes, indexSize}
 use Rattle.dataset_index.specs.Query.{countIn, placeIn, isFramed, spotIn, byIndex, partOr, valueByIndex}
 use Rattle.dataset_index.proofs.Slots.{index-length}
+
+-- the length of a value, by its place
+value-length : (s : List ℕ) (at t a n t′ h : ℕ) (v r : List ℕ) → Agree s at (f.Entry t a n) (one t′ h v r) → a + n ≤ length s → length v ≡ n
+value-length s at t a n t′ h v r k i = ap length (sym (k .2)) ∙ length-part s a n i
 
 -- ---- an entry is what stands at its place
 abbrev Stands : List ℕ → Entry → Type 0
@@ -49,7 +53,7 @@ step-stands s at k (one t h v r) q a i go = by (frameAt s at) a i
     by f.End a i = absurd a
     by f.Cut a i = absurd a
     by (f.Entry t′ b n) a i =
-        let l : length v ≡ n = ap length (sym (a .2)) ∙ length-part s b n (i .1) in
+        let l = value-length s at t′ b n t h v r a (i .1) in
         let on : at + h + length v ≡ b + n = omega (arith, a .1) in
         (rw (← q) (simp (eq-eqb t t refl)), rw (on, ← a .3) (go (b + n)))
 
@@ -111,12 +115,8 @@ Fits ty s (given e) = (e .ty ≡ ty) × Stands s e
 Fits ty s absent = Unit {0}
 Fits ty s (refused n q i) = ⊥
 
-last-fits : (ty : ℕ) (s : List ℕ) (best : Answer Entry) (es : List Entry) → Fits ty s best → Every (Stands s) es → Fits ty s (lastOf ty best es)
-unfolding lastOf
-last-fits ty s best [] b h = b
-last-fits ty s best (e ∷ es) b h =
-    last-fits ty s (pick (eqb (e .ty) ty) (given e) best) es
-    (pick-all (Fits ty s) (eqb (e .ty) ty) (given e) best (λ t. (eqb-true _ _ t, h .0)) (λ t. b)) (h .1)
+last-fits : (ty : ℕ) (s : List ℕ) (es : List Entry) → Every (Stands s) es → Fits ty s (lastOf ty absent es)
+last-fits ty s es h = last-holds (Fits ty s) ty absent es tt (every-map _ _ (λ e stands t. (t, stands)) es h)
 
 -- the count is 0 exactly where no entry has the type
 none-counted : (ty : ℕ) (es : List Entry) → howMany ty es ≡ 0 → Every (Other ty) es
@@ -140,13 +140,9 @@ many-few ty (e ∷ es) =
     let h = many-few ty es in
     by-test (eqb (e .ty) ty) (λ t. simp t (omega arith)) (λ t. simp t (omega arith))
 
-place-near : (ty : ℕ) (s : List ℕ) (best : Answer Entry) (es : List Entry) → placeOr0 best ≤ length s → Every (Lies s) es
-    → placeOr0 (lastOf ty best es) ≤ length s
-unfolding lastOf
-place-near ty s best [] h l = h
-place-near ty s best (e ∷ es) h l =
-    place-near ty s (pick (eqb (e .ty) ty) (given e) best) es
-    (pick-all (λ (x : Answer Entry). placeOr0 x ≤ length s) (eqb (e .ty) ty) (given e) best (λ t. omega (arith, l .0)) (λ t. h)) (l .1)
+place-near : (ty : ℕ) (s : List ℕ) (es : List Entry) → Every (Lies s) es → placeOr0 (lastOf ty absent es) ≤ length s
+place-near ty s es h =
+    last-holds (λ (x : Answer Entry). placeOr0 x ≤ length s) ty absent es (omega arith) (every-map _ _ (λ e lies t. omega (arith, lies)) es h)
 
 module _ (s : List ℕ) (es : List Entry) (fine : framed 0 s ≡ given es) where
   pub given-are : framing s .entries ≡ es
@@ -165,7 +161,7 @@ module _ (s : List ℕ) (es : List Entry) (fine : framed 0 s ≡ given es) where
     pub place-fits : lastPlace ty es ≤ mostBytes
     unfolding lastPlace
     place-fits =
-        omega (arith, given-short, place-near ty s absent es (omega arith) (rw given-are at (framing-lies s)))
+        omega (arith, given-short, place-near ty s es (rw given-are at (framing-lies s)))
 
     module _ (small : ty < 256) where
       pub stored-count : countIn (indexBytes es) ty ≡ howMany ty es
@@ -194,7 +190,7 @@ found-by-index ty s es small fine =
     (λ t. rw (t, over-others ty absent es (none-counted ty es (eqb-true _ _ t))))
     (λ t.
     rw t
-    (there-by ty s (lastOf ty absent es) (last-fits ty s absent es tt (rw (given-are s es fine) at (framing-stands s)))
+    (there-by ty s (lastOf ty absent es) (last-fits ty s es (rw (given-are s es fine) at (framing-stands s)))
     (λ z. eqb-false _ _ t (counted-none ty es (absent-none ty es z))))))
 
 -- ---- what the code's steps find: an entry at a place,
@@ -209,7 +205,7 @@ module _ (ty p : ℕ) (s : List ℕ) (r : Frame) (found : r ≡ frameAt s p) whe
     spot-by none k i = absurd k
     spot-by cut k i = absurd k
     spot-by (one t′ h v rest) k i =
-        let l : length v ≡ n = ap length (sym (k .2)) ∙ length-part s a n i in
+        let l = value-length s p t a n t′ h v rest k i in
         rw (l, ← k .0, ← k .1)
 
     stood : spotIn ty p (first (drop p s)) ≡ pick (eqb t ty) (given (spotAt p a n)) (refused 17 0 1)
@@ -289,7 +285,7 @@ module _ (ty p : ℕ) (s : List ℕ) where
   within-by f.End (one t h v rest) a i = absurd a
   within-by f.Cut (one t h v rest) a i = absurd a
   within-by (f.Entry t b n) (one t′ h v rest) a i =
-      let l : length v ≡ n = ap length (sym (a .2)) ∙ length-part s b n (i .1) in
+      let l = value-length s p t b n t′ h v rest a (i .1) in
       pick-all (Within s) (eqb t′ ty) _ _ (λ e. omega (arith, a .1, i .1)) (λ e. tt)
 
   spot-within : Within s (spotIn ty p (first (drop p s)))

@@ -1,11 +1,11 @@
 -- THE definition of a dataset's index. Document 02, Seven: "for each of the 256 types, how many entries and where the last begins. Stored, it
 -- opens with the mark 49 58, followed for each type by its count and its place as two bytes each, place 0 where the count is 0."
 -- Assumes nothing.
-use mathlib.Core.Bool.{Bool, true, false}
 use Prim.Native.Nat.{ℕ, zero, suc}
 use mathlib.Core.List.{List, [], _∷_, _++_}
 use lib.Dec.{eqb}
 use Rattle.refusal.specs.Answer.{pick, Answer, given, absent, refused, onGiven, thenDo}
+use Rattle.refusal.specs.Each.{same}
 use Rattle.wire_bytes.specs.Bytes.{bytesOf}
 use Rattle.tlv.specs.Entries.{Entry}
 use Rattle.tlv.specs.Limits.{framed}
@@ -42,13 +42,6 @@ indexSize = 1026
 unfoldable pub built : List ℕ → Answer (List ℕ)
 built s = onGiven indexBytes (framed 0 s)
 
--- whether two lists are one
-unfoldable pub sameBytes : List ℕ → List ℕ → Bool
-sameBytes [] [] = true
-sameBytes [] (y ∷ ys) = false
-sameBytes (x ∷ xs) [] = false
-sameBytes (x ∷ xs) (y ∷ ys) = pick (eqb x y) (sameBytes xs ys) false
-
 -- "17, place 0 of the second input, for a stored index that is misframed or isn't the one the dataset gives; after all faults of the dataset"
 unfoldable pub loaded : List ℕ → (stored : List ℕ) → Answer (Unit {0})
-loaded s x = thenDo (built s) (λ (ix : List ℕ). pick (sameBytes ix x) (given tt) (refused 17 0 1))
+loaded s x = thenDo (built s) (λ (ix : List ℕ). pick (same ix x) (given tt) (refused 17 0 1))

@@ -1,5 +1,6 @@
 -- A query by an index, of any bytes and of any index whatever: it looks at the index's four bytes of the type and at the one entry that they name.
--- That it is the query by walk where the index is the dataset's is a theorem (`by-index`, proofs/Meaning.antt).
+-- "a query by index equals the query by walk" where the index is the dataset's: `by-index`, proofs/Meaning.antt. 17 "for a stored index that is
+-- misframed or isn't the one the dataset gives; after all faults of the dataset" is `loaded`; here it is told where it shows without a walk.
 -- Assumes nothing.
 use mathlib.Core.Bool.{Bool, false}
 use Prim.Native.Nat.{ℕ, _+_, _*_}

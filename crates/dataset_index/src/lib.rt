@@ -8,7 +8,7 @@ use tlv_last::Found;
 ghost use mathlib.Core.Path.{_≡_};
 ghost use mathlib.Core.List.{[], _∷_};
 ghost use Prim.Native.Nat.{_+_, _≤_};
-ghost use lib.ListN.{length, drop};
+ghost use lib.ListN.{length, drop, replicate};
 ghost use Rattle.refusal.specs.Sizes.{mostBytes};
 ghost use Rattle.refusal.specs.Answer.{pick, given, refused};
 ghost use Rattle.refusal.specs.Output.{output, emit, put, writtenAnswer};
@@ -32,7 +32,7 @@ fn constants() -> [usize; 1]
     [INDEX_BYTES]
 }
 
-// For each type how many entries, and the place of the last. A place is below 65,536, since a dataset has at most 16,384 bytes.
+// For each type how many entries, and the place of the last: both fit, since a dataset has at most `refusal::MAX_BYTES`.
 struct Table {
     count: [u16; 256],
     place: [u16; 256],
@@ -50,15 +50,21 @@ struct Collected {
     counted: Counted,
 }
 
+fn no_entries() -> Table
+    ensures { λ r. ⌜ (r .count ≡ replicate 256 0) × (r .place ≡ replicate 256 0) ⌝ }
+{
+    Table {
+        count: [0u16; 256],
+        place: [0u16; 256],
+    }
+}
+
 // One pass over the entries.
 fn collect(s: &[u8]) -> Collected
     requires { ⌜ length (now s) ≤ mostBytes ⌝ }
     ensures { λ r. ⌜ Indexed (r .table) (now (s .entry)) × (countedAnswer (r .counted) ≡ count 0 (now (s .entry))) ⌝ }
 {
-    let mut table = Table {
-        count: [0u16; 256],
-        place: [0u16; 256],
-    };
+    let mut table = no_entries();
     let mut at: usize = 0;
     let mut n: usize = 0;
     let mut over: usize = 0;
@@ -132,7 +138,7 @@ pub fn build(dataset: &[u8], out: &mut [u8]) -> Written
     }
 }
 
-// What is said of an index that is not the dataset's, which is the second input.
+// 17, at place 0 of the second input, which is the index.
 fn wrong_index() -> Refusal
     ensures { λ r. ⌜ r ≡ wrongIndex ⌝ }
 {

@@ -66,7 +66,7 @@ pub(crate) fn put_part(
     put_number(text, sign, start as u64)
 }
 
-// The place is that of the entry that was found, the bytes are the part that was handed back.
+// The place is where the value of the entry that was found begins, the bytes are the part that was handed back.
 fn put_raw(text: &mut Room, at: usize, ty: u8, s: &[u8]) -> usize {
     match tlv_last::last_entry(s, ty, 0) {
         Found::At {

@@ -16,7 +16,7 @@ fn put_loaded(text: &mut Room, at: usize, loaded: Loaded) -> usize {
     }
 }
 
-// The place is that of the entry that was found, the bytes are the part that was handed back.
+// The place is where the value of the entry that was found begins, the bytes are the part that was handed back.
 fn put_looked(text: &mut Room, at: usize, ty: u8, s: &[u8], index: &[u8]) -> usize {
     match dataset_index::last_entry(s, index, ty) {
         Found::At {
@@ -45,15 +45,17 @@ fn put_queried(text: &mut Room, at: usize, ty: u8, s: &[u8], index: &[u8]) -> us
 
 // Puts the answer to a request, or nothing where it is for none of these calls.
 pub(crate) fn answer(request: &Room, v: Values, text: &mut Room, at: usize) -> usize {
-    let s = v.bytes(request, 2);
     if asks(request, b"ixload bb") {
-        return put_loaded(text, at, dataset_index::load(v.bytes(request, 1), s));
+        let loaded = dataset_index::load(v.bytes(request, 1), v.bytes(request, 2));
+        return put_loaded(text, at, loaded);
     }
+    let s = v.bytes(request, 2);
+    let index = v.bytes(request, 3);
     if asks(request, b"ixquery tbb") {
-        return put_queried(text, at, v.type_byte(1), s, v.bytes(request, 3));
+        return put_queried(text, at, v.type_byte(1), s, index);
     }
     if asks(request, b"ixlook tbb") {
-        return put_looked(text, at, v.type_byte(1), s, v.bytes(request, 3));
+        return put_looked(text, at, v.type_byte(1), s, index);
     }
     at
 }

@@ -52,6 +52,7 @@ pub fn set_raw(
         Loaded::Current => {}
     }
     if index.len() < INDEX_BYTES {
+        // nothing may be written to out, and 13 and 10 come before 11
         let mut scratch = [0u8; 1];
         return no_room_for(dataset_edits::set_raw(dataset, ty, value, &mut scratch));
     }

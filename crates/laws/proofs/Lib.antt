@@ -8,3 +8,4 @@ pub mod Answers
 pub mod Stands
 pub mod Bits
 pub mod Joined
+pub mod Same

@@ -40,6 +40,11 @@ module _ {A : Type 0} (P : A → Type 0) where
   every-drop (suc n) [] h = tt
   every-drop (suc n) (x ∷ l) h = every-drop n l (h .1)
 
+-- what follows from P holds of each where P does
+pub every-map : {A : Type 0} (P Q : A → Type 0) → ((x : A) → P x → Q x) → (l : List A) → Every P l → Every Q l
+every-map P Q f [] h = tt
+every-map P Q f (x ∷ l) h = (f x (h .0), every-map P Q f l (h .1))
+
 -- each is a byte where it is one by its index
 pub every-byte : (s : List ℕ) → ((i : ℕ) → getD s i 0 < 256) → Bytes s
 every-byte [] h = tt

@@ -6,7 +6,7 @@ use mathlib.Core.List.{List, [], _∷_}
 use Prim.Native.Nat.{ℕ}
 use lib.IntN.{pos}
 use Rattle.refusal.specs.Answer.{Answer, given, absent}
-use Rattle.refusal.specs.Each.{joined, all}
+use Rattle.refusal.specs.Each.{joined, all, same}
 use Rattle.wire_bytes.specs.Bytes.{bytesOf}
 use Rattle.tlv_writing.specs.Encode.{header, encode, encodeAll, sized}
 use Rattle.diag_rules.specs.Mask.{bitOf, routers, routersOf}
@@ -15,7 +15,7 @@ use Rattle.network_writing.specs.Encode.{rowItems, contextItems, innerItems, pr
 use Rattle.connectivity.specs.Connectivity.{ConnectivityValue}
 use Rattle.route64.specs.Routes.{Route}
 use Rattle.value_writing.specs.Encode.{route64Bytes, ListValue, listBytes}
-use Rattle.value_writing.specs.Fits.{priorityFits, lateFits, connectivityFits, same, maskAgrees, route64Fits}
+use Rattle.value_writing.specs.Fits.{priorityFits, lateFits, connectivityFits, maskAgrees, route64Fits}
 use Rattle.record_writing.specs.Values.{Values, entryFor, present, entriesOf}
 use Rattle.record_writing.specs.Fits.{passes, valuesFit}
 

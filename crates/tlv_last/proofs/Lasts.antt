@@ -8,11 +8,11 @@ use Prim.Native.Nat.{ℕ, _+_, _≤_}
 use native.Mathlib.Omega.{arith}
 use lib.ListN.{length, take, drop}
 use lib.Dec.{eqb}
-use borrow.Author.Tests.{eq-eqb, ne-eqb, eqb-false}
+use borrow.Author.Tests.{eq-eqb, ne-eqb, eqb-true, eqb-false}
 use Rattle.refusal.specs.Answer.{pick, Answer, given, absent, refused, thenDo, onGiven}
 use Rattle.laws.proofs.Tests.{by-test, pick-all}
 use Rattle.refusal.specs.Every.{Every}
-use Rattle.laws.proofs.Parts.{length-part}
+use Rattle.laws.proofs.Parts.{length-part, every-map}
 use Rattle.tlv.specs.Entries.{Entry, entry, framing}
 use Rattle.tlv.specs.Limits.{framed}
 use Rattle.tlv_last.specs.Last.{lastOf, lastEntry, Spot, spotAt, spot, laterOf, lastSpot, valueOr, lastValue}
@@ -40,12 +40,20 @@ last-counts ty best [] e ys is h =
     ap (λ (x : Answer Entry). lastOf ty x ys) this ∙ over-others ty (given e) ys h
 last-counts ty best (x ∷ xs) e ys is h = last-counts ty (pick (eqb (x .ty) ty) (given x) best) xs e ys is h
 
--- what holds of any entry, and of `best`, holds of what is found;
-pub found-all : (P : Answer Entry → Type 0) → ((e : Entry) → P (given e)) → (ty : ℕ) (best : Answer Entry) (es : List Entry) → P best → P (lastOf ty best es)
+-- what holds of `best`, and of each entry of the type, holds of what is found;
+pub last-holds : (P : Answer Entry → Type 0) (ty : ℕ) (best : Answer Entry) (es : List Entry) → P best → Every (λ (e : Entry). e .ty ≡ ty → P (given e)) es
+    → P (lastOf ty best es)
 unfolding lastOf
-found-all P each ty best [] b = b
-found-all P each ty best (e ∷ es) b =
-    found-all P each ty (pick (eqb (e .ty) ty) (given e) best) es (pick-all P (eqb (e .ty) ty) (given e) best (λ t. each e) (λ t. b))
+last-holds P ty best [] b h = b
+last-holds P ty best (e ∷ es) b h =
+    last-holds P ty (pick (eqb (e .ty) ty) (given e) best) es (pick-all P (eqb (e .ty) ty) (given e) best (λ t. h .0 (eqb-true _ _ t)) (λ t. b)) (h .1)
+
+pub found-all : (P : Answer Entry → Type 0) → ((e : Entry) → P (given e)) → (ty : ℕ) (best : Answer Entry) (es : List Entry) → P best → P (lastOf ty best es)
+found-all P each ty best es b = last-holds P ty best es b (any es)
+  where
+    any : (xs : List Entry) → Every (λ (e : Entry). e .ty ≡ ty → P (given e)) xs
+    any [] = tt
+    any (x ∷ xs) = ((λ t. each x), any xs)
 
 -- and so "absent" tells that there is none
 abbrev There : Answer Entry → Type 0
@@ -130,11 +138,7 @@ LiesIn s absent = Unit {0}
 LiesIn s (refused n p i) = Unit {0}
 
 last-lies : (s : List ℕ) (ty : ℕ) (best : Answer Entry) (es : List Entry) → LiesIn s best → Every (Lies s) es → LiesIn s (lastOf ty best es)
-unfolding lastOf
-last-lies s ty best [] b h = b
-last-lies s ty best (e ∷ es) b h =
-    last-lies s ty (pick (eqb (e .ty) ty) (given e) best) es
-    (pick-all (LiesIn s) (eqb (e .ty) ty) (given e) best (λ t. h .0) (λ t. b)) (h .1)
+last-lies s ty best es b h = last-holds (LiesIn s) ty best es b (every-map _ _ (λ e l t. l) es h)
 
 then-lies : (s : List ℕ) (ty i : ℕ) (a : Answer (List Entry)) → Holds i (Every (Lies s)) a → LiesIn s (thenDo a (lastOf ty absent))
 then-lies s ty i (given es) h = last-lies s ty absent es tt h

@@ -14,6 +14,7 @@ use borrow.Author.Tests.{leb-true, eq-eqb, le-leb}
 use Rattle.refusal.specs.Every.{Every, Bytes}
 use Rattle.refusal.specs.Answer.{pick, given, absent}
 use Rattle.refusal.specs.Each.{joined, all}
+use Rattle.laws.proofs.Same.{same-self}
 use Rattle.laws.proofs.Tests.{by-test, pick-all}
 use Rattle.laws.proofs.Parts.{length-part, every-take, every-drop}
 use Rattle.wire_bytes.specs.Bytes.{bytesOf}
@@ -30,7 +31,7 @@ use Rattle.diag_rows.specs.Rows.{listed, childRows, addresses, addressListOf}
 use Rattle.diag_rows.proofs.Within.{child-count, ChildWithin, child-within}
 use Rattle.diag_rows.specs.declared.ChildTableEntry.{ChildTableEntry}
 use Rattle.value_writing.specs.Encode.{lateBytes, connectivityBytes, route64Bytes, childrenBytes, ListValue, listBytes}
-use Rattle.value_writing.specs.Fits.{Under, Words, priorityFits, lateFits, connectivityFits, routeRowFits, same, maskAgrees, route64Fits, childFits, listFits}
+use Rattle.value_writing.specs.Fits.{Under, Words, priorityFits, lateFits, connectivityFits, routeRowFits, maskAgrees, route64Fits, childFits, listFits}
 use Rattle.value_writing.proofs.Round.{route-length, routers-same, children-size, list-length}
 
 -- ---- numbers are as wide as their bytes
@@ -86,11 +87,6 @@ module _ (v : List ℕ) where
       (λ e. let k = n ∙ ap (λ (b : Bool). pick b 3 0) e in omega arith)
 
 -- ---- 5, Route64
-same-self : (xs : List ℕ) → same xs xs ≡ true
-unfolding same
-same-self [] = refl
-same-self (x ∷ xs) = rw (eq-eqb x x refl) (same-self xs)
-
 module _ (v : List ℕ) (fit : routesFit v ≡ true) where
   pub mask-length : length (routeOf v .mask) ≡ 8
   mask-length = length-part v 1 8 (omega (arith, fit-length v fit))

@@ -14,6 +14,7 @@ use lib.Dec.{eqb, leb}
 use borrow.Author.Tests.{leb-true, eqb-true, eq-eqb, le-leb}
 use Rattle.refusal.specs.Answer.{pick, Answer, given, absent, refused}
 use Rattle.refusal.specs.Each.{joined, all}
+use Rattle.laws.proofs.Same.{same-true}
 use Rattle.laws.proofs.Bits.{both, above}
 use Rattle.laws.proofs.Stands.{Stands, stands-whole}
 use Rattle.laws.proofs.Joined.{joined-length, row-stands}
@@ -33,7 +34,7 @@ use Rattle.diag_rows.specs.declared.ChildTableEntry.{ChildTableEntry}
 use Rattle.diag_rows.specs.declared.ChildIpv6AddrInfo.{ChildIpv6AddrInfo}
 use Rattle.route64.specs.declared.RouteDataEntry.{RouteDataEntry}
 use Rattle.value_writing.specs.Encode.{modeByte, priorityBits, lateBytes, connectivityBytes, leaderBytes, countersBytes, routeByte, route64Bytes, childBits, childBytes, childrenBytes, ListValue, listBytes}
-use Rattle.value_writing.specs.Fits.{Under, Words, priorityFits, lateFits, connectivityFits, routeRowFits, same, router, maskAgrees, route64Fits, childFits, wholeAddresses, listFits}
+use Rattle.value_writing.specs.Fits.{Under, Words, priorityFits, lateFits, connectivityFits, routeRowFits, router, maskAgrees, route64Fits, childFits, wholeAddresses, listFits}
 
 -- ---- 2, mode
 abbrev modeFrom : Bool → Bool → Bool → ModeData
@@ -211,15 +212,6 @@ routers-same zero k v w l h = refl
 routers-same (suc n) k v w l h =
     ap (λ (b : ℕ). pick (bitOf b k) (k ∷ routers n (suc k) v) (routers n (suc k) v)) (h (k / 8) (omega arith))
     ∙ ap (λ (x : List ℕ). pick (assigned w k) (k ∷ x) x) (routers-same n (suc k) v w (omega arith) h)
-
-same-true : (xs ys : List ℕ) → same xs ys ≡ true → xs ≡ ys
-unfolding same
-same-true [] [] h = refl
-same-true [] (y ∷ ys) h = absurd (let z : _≡_ {A = ℕ} 0 1 = cc in omega arith)
-same-true (x ∷ xs) [] h = absurd (let z : _≡_ {A = ℕ} 0 1 = cc in omega arith)
-same-true (x ∷ xs) (y ∷ ys) h =
-    let b = both (eqb x y) (same xs ys) h in
-    ap (λ (z : ℕ). z ∷ xs) (eqb-true x y (b .0)) ∙ ap (λ (l : List ℕ). y ∷ l) (same-true xs ys (b .1))
 
 row-of : (r : RouteDataEntry) → routeRowFits r ≡ true → routeRow (router r) (routeByte r) ≡ r
 row-of r g =

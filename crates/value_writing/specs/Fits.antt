@@ -9,7 +9,7 @@ use lib.IntN.{ℤ, pos, negsuc}
 use lib.Dec.{leb, eqb}
 use Rattle.refusal.specs.Every.{Every}
 use Rattle.refusal.specs.Answer.{pick, Answer, given, absent, refused}
-use Rattle.refusal.specs.Each.{all}
+use Rattle.refusal.specs.Each.{all, same}
 use Rattle.diag_rules.specs.Mask.{routersOf}
 use Rattle.connectivity.specs.Connectivity.{ConnectivityValue}
 use Rattle.route64.specs.Routes.{Route}
@@ -38,13 +38,6 @@ connectivityFits c = pick (priorityFits (c .parentPriority)) (lateFits (c .buffe
 
 abbrev pub routeRowFits : RouteDataEntry → Bool
 routeRowFits r = pick (leb (r .«outgoing_link_quality») 3) (pick (leb (r .«incoming_link_quality») 3) (leb (r .«route_cost») 15) false) false
-
--- the same numbers in the same order
-unfoldable pub same : List ℕ → List ℕ → Bool
-same [] [] = true
-same [] (y ∷ ys) = false
-same (x ∷ xs) [] = false
-same (x ∷ xs) (y ∷ ys) = pick (eqb x y) (same xs ys) false
 
 abbrev pub router : RouteDataEntry → ℕ
 router r = r .«router_id»

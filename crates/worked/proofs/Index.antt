@@ -1,18 +1,20 @@
 -- Worked lines of the index: of datasets, of edited ones, and the order of refusals, computed from the definitions.
 -- Assumes nothing.
 use mathlib.Core.Path.{_≡_, refl}
-use mathlib.Core.List.{List, [], _∷_}
+use mathlib.Core.List.{List, [], _∷_, _++_}
 use Prim.Native.Nat.{ℕ, _*_}
-use lib.ListN.{replicate}
+use lib.ListN.{take, replicate}
 use Rattle.refusal.specs.Answer.{Answer, given, refused, onGiven, thenDo}
 use Rattle.refusal.specs.Every.{Every}
+use Rattle.refusal.specs.Each.{same}
+use Rattle.wire_bytes.specs.Bytes.{bytesOf}
 use Rattle.tlv.specs.Entries.{Entry, valued, long, first, step, frames, framing, contents}
 use Rattle.tlv.specs.Limits.{limited, framed}
 use Rattle.tlv_writing.specs.Encode.{header, encode, encodeAll, sized}
 use Rattle.tlv_last.specs.Last.{lastOf}
 use Rattle.tlv_rewriting.specs.Rewrite.{keepsOf, kept, rewritten, setLast, withSet}
 use Rattle.tlv_rewriting.specs.declared.Choice.the-variants.{Without}
-use Rattle.dataset_index.specs.Index.{howMany, lastPlace, indexBytes, built, sameBytes, loaded}
+use Rattle.dataset_index.specs.Index.{howMany, lastPlace, slots, indexBytes, built, loaded}
 use Rattle.index_edits.specs.Edits.{byStored}
 
 -- a dataset, a type, and how many entries of it there are and where the last begins
@@ -60,6 +62,12 @@ pub worked : Every (λ (l : Line). thenDo (l .dataset) (slotOf (l .ty)) ≡ give
 unfolding withSet setLast rewritten kept keepsOf sized encodeAll encode header contents howMany lastPlace lastOf framed limited framing frames step first long valued
 worked = (refl, (refl, (refl, (refl, (refl, (refl, (refl, (refl, (refl, tt)))))))))
 
+-- the first bytes as they are stored: the upper byte first, of a place too, which is 256 here
+pub stored : onGiven (λ (es : List Entry). take 10 (indexBytes es)) (framed 0 (0x01 ∷ 0xfe ∷ (replicate 254 0 ++ (0x00 ∷ 0x00 ∷ []))))
+    ≡ given (0x49 ∷ 0x58 ∷ 0x00 ∷ 0x01 ∷ 0x01 ∷ 0x00 ∷ 0x00 ∷ 0x01 ∷ 0x00 ∷ 0x00 ∷ [])
+unfolding indexBytes slots bytesOf howMany lastPlace lastOf framed limited framing frames step first long valued
+stored = refl
+
 -- ---- the order of refusals: a dataset, a stored index, and what loading it says
 pub record Refused : Type 0 where
   pub dataset : List ℕ
@@ -82,10 +90,10 @@ refusals =
     ∷ []
 
 pub loads : Every (λ (l : Refused). loaded (l .dataset) (l .stored) ≡ l .answer) refusals
-unfolding loaded built indexBytes sameBytes framed limited framing frames step first long valued
+unfolding loaded built indexBytes same framed limited framing frames step first long valued
 loads = (refl, (refl, (refl, tt)))
 
 -- 17 before 10, which the edit itself would give
 pub stored-first : (byStored (empty 256) [] (withSet 1 [] (empty 256)) ≡ refused 17 0 1) × (withSet 1 [] (empty 256) ≡ refused 10 0 0)
-unfolding byStored loaded built indexBytes sameBytes withSet setLast kept keepsOf sized encodeAll encode header contents framed limited framing frames step first long valued
+unfolding byStored loaded built indexBytes same withSet setLast kept keepsOf sized encodeAll encode header contents framed limited framing frames step first long valued
 stored-first = (refl, refl)

@@ -218,7 +218,7 @@ fn cut_at_each_length() -> Vec<Beside> {
     all
 }
 
-/// Whatever the count is, as long as it is one.
+/// A place that is right, by each count: none is found by 0, and the entry by any other.
 fn by_each_count() -> Vec<Beside> {
     let dataset = [entry(7, b"A", false), entry(3, b"B", false)].concat();
     let with_count = |count| (3, dataset.clone(), with_slot(3, [count, 3], own_index(&dataset)));
