@@ -2,15 +2,12 @@
 -- Assumes nothing.
 use mathlib.Core.Path.{_≡_, refl, sym, ap, _∙_}
 use mathlib.Core.Bool.{Bool, true, false}
-use mathlib.Core.List.{List, [], _∷_, append-nil}
+use mathlib.Core.List.{List, [], append-nil}
 use Prim.Native.Nat.{ℕ}
 use native.Mathlib.Omega.{arith}
 use lib.ListN.{length, drop, drop-of-length-le}
-use lib.Dec.{eqb}
-use borrow.Author.Tests.{eq-eqb, eqb-true}
 use Rattle.refusal.specs.Answer.{pick, given, refused}
 use Rattle.refusal.specs.Output.{output, emit}
-use Rattle.laws.proofs.Tests.{by-test}
 use Rattle.laws.proofs.Same.{same-self, same-not}
 use Rattle.laws.proofs.Answers.{gives}
 use Rattle.laws.proofs.Callers.{gave, Refuses, itself, no-room, refuses}

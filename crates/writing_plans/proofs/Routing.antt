@@ -12,7 +12,7 @@ use mir.Val.{Val}
 use denote.Laws.{Is}
 use denote.Struct.Laws as LL
 use Rattle.refusal.specs.Answer.{pick}
-use Rattle.refusal.specs.Each.{all}
+use Rattle.refusal.specs.Each.{all, same}
 use Rattle.laws.proofs.Tests.{by-test}
 use Rattle.diag_rules.specs.Mask.{bitOf, assigned}
 use Rattle.diag_rules.proofs.Mask.{rest, rest-all, rest-hit, rest-miss, rest-end}
@@ -21,7 +21,7 @@ use Rattle.route64.specs.declared.RouteDataEntry.{RouteDataEntry}
 use Rattle.route64.proofs.Route64 as R
 use Rattle.route64.proofs.Route64.Laws as R′
 use Rattle.route64.specs.Routes.{routeRow}
-use Rattle.value_writing.specs.Fits.{routeRowFits, same, router, maskAgrees, route64Fits}
+use Rattle.value_writing.specs.Fits.{routeRowFits, router, maskAgrees, route64Fits}
 use Rattle.record_writing.specs.Lent.{routeUsed}
 use Rattle.record_writing.specs.Written.{routesCounted}
 use Rattle.writing_plans.proofs.Left.{left, left-start, left-end, left-more}
