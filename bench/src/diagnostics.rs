@@ -8,6 +8,10 @@ pub struct Diagnostics {
     pub connectivity: Vec<u8>,
     pub leader_data: Vec<u8>,
     pub mac_counters: Vec<u8>,
+    pub route64_none: Vec<u8>,
+    pub route64_4_in_1: Vec<u8>,
+    pub route64_4_in_4: Vec<u8>,
+    pub route64_32: Vec<u8>,
     pub route64: Vec<u8>,
     pub network_data: Vec<u8>,
     pub addresses: Vec<u8>,
@@ -30,13 +34,15 @@ pub fn some(len: usize) -> Vec<u8> {
     (0..len).map(|k| (k * 37 + 11) as u8).collect()
 }
 
-/// All 64 routers, each with its route byte.
-pub fn route64() -> Vec<u8> {
+/// The routers of a mask, each with its route byte.
+pub fn route64(mask: [u8; 8]) -> Vec<u8> {
     let mut value = vec![7];
-    value.extend([255; 8]);
-    value.extend(some(64));
+    value.extend(mask);
+    value.extend(some(mask.iter().map(|byte| byte.count_ones() as usize).sum()));
     value
 }
+
+pub const ALL_ROUTERS: [u8; 8] = [255; 8];
 
 /// The most prefixes that there may be.
 const PREFIXES: usize = 64;
@@ -77,7 +83,7 @@ fn payload(size: usize) -> Vec<u8> {
         entry(2, &[0x0b]),
         entry(3, &some(4)),
         entry(4, &some(10)),
-        entry(5, &route64()),
+        entry(5, &route64(ALL_ROUTERS)),
         entry(6, &some(8)),
         entry(7, &network_data(size / 8)),
         entry(8, &some(size / 64 * 16)),
@@ -104,7 +110,11 @@ impl Diagnostics {
             connectivity: entry(4, &some(10)),
             leader_data: entry(6, &some(8)),
             mac_counters: entry(9, &some(36)),
-            route64: entry(5, &route64()),
+            route64_none: entry(5, &route64([0; 8])),
+            route64_4_in_1: entry(5, &route64([0, 0, 0x5a, 0, 0, 0, 0, 0])),
+            route64_4_in_4: entry(5, &route64([0x80, 0, 0x10, 0, 0, 0x04, 0, 0x01])),
+            route64_32: entry(5, &route64([0xa5; 8])),
+            route64: entry(5, &route64(ALL_ROUTERS)),
             network_data: network_data(size),
             addresses: entry(8, &some((size - 4) / 16 * 16)),
             child_table: entry(16, &some((size - 4) / 3 * 3)),

@@ -16,7 +16,7 @@ use inputs::Input;
 type Work = fn(&Input, &mut [u8]) -> u64;
 
 /// Each with the library's way and the Rust's.
-const WORK: [(&str, Work, Work); 29] = [
+const WORK: [(&str, Work, Work); 33] = [
     ("framing", ours::framing, rust::framing),
     ("rewrite", ours::rewrite, rust::rewrite),
     ("last_value", ours::last_value, rust::last_value),
@@ -38,6 +38,10 @@ const WORK: [(&str, Work, Work); 29] = [
     ("connectivity", |i, _| ours::payload(&i.diag.connectivity), |i, _| rust::payload(&i.diag.connectivity)),
     ("leader_data", |i, _| ours::payload(&i.diag.leader_data), |i, _| rust::payload(&i.diag.leader_data)),
     ("mac_counters", |i, _| ours::payload(&i.diag.mac_counters), |i, _| rust::payload(&i.diag.mac_counters)),
+    ("route64_none", |i, _| ours::payload(&i.diag.route64_none), |i, _| rust::payload(&i.diag.route64_none)),
+    ("route64_4_in_1", |i, _| ours::payload(&i.diag.route64_4_in_1), |i, _| rust::payload(&i.diag.route64_4_in_1)),
+    ("route64_4_in_4", |i, _| ours::payload(&i.diag.route64_4_in_4), |i, _| rust::payload(&i.diag.route64_4_in_4)),
+    ("route64_32", |i, _| ours::payload(&i.diag.route64_32), |i, _| rust::payload(&i.diag.route64_32)),
     ("route64", |i, _| ours::payload(&i.diag.route64), |i, _| rust::payload(&i.diag.route64)),
     ("network_data", |i, _| ours::network_data(&i.diag.network_data), |i, _| rust::network_data(&i.diag.network_data)),
     ("addresses", |i, _| ours::payload(&i.diag.addresses), |i, _| rust::payload(&i.diag.addresses)),

@@ -18,7 +18,7 @@ impl Writing {
     /// The Rust's record is read from what the library writes: the limit must write the same bytes again. The bytes that are lent are as many as the addresses
     /// of the larger record take.
     pub fn of(size: usize) -> Writing {
-        let (n, routes, parts) = ((size / PER) as u8, diagnostics::route64(), diagnostics::some(MOST / PER * 16));
+        let (n, routes, parts) = ((size / PER) as u8, diagnostics::route64(diagnostics::ALL_ROUTERS), diagnostics::some(MOST / PER * 16));
         let mut payload = vec![0; MOST];
         let len = ours::write(&routes, &parts, n, &mut payload);
         payload.truncate(len as usize);

@@ -1,3 +1,4 @@
 pub mod Kept
 pub mod Mask
+pub mod Bits
 pub mod Papers

@@ -94,19 +94,16 @@ pub fn assigns(byte: u8, k: usize) -> bool
     (byte >> shift) % 2 == 1
 }
 
-// How many routers it assigns.
+// How many routers a value's mask assigns: as many as bits are set in its bytes.
 fn count_routers(v: &[u8]) -> usize
     requires { ⌜ 9 ≤ length (now v) ⌝ }
     ensures { λ r. ⌜ (r ≡ length (routersOf (now (v .entry)))) × (r ≤ 64) ⌝ }
 {
     let mut n: usize = 0;
-    let mut k: usize = 0;
-    while k < 64 {
-        let next = k + 1;
-        if assigns(v[1 + k / 8], k) {
-            n += 1;
-        }
-        k = next;
+    let mut j: usize = 0;
+    while j < ROUTER_ID_MASK_LEN {
+        n += u8::count_ones(v[1 + j]) as usize;
+        j += 1;
     }
     n
 }

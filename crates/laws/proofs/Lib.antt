@@ -1,4 +1,5 @@
 pub mod Tests
+pub mod Below
 pub mod Parts
 pub mod Numbered
 pub mod Puts

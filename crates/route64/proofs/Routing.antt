@@ -1,7 +1,7 @@
 -- The laws of the rows of the routers that a mask assigns.
 -- Assumes nothing.
 use mathlib.Core.Path.{_≡_, refl, ap, _∙_}
-use mathlib.Core.Bool.{true, false}
+use mathlib.Core.Bool.{true}
 use mathlib.Core.List.{List, [], _∷_, _++_}
 use Prim.Native.Nat.{ℕ, zero, suc, _+_, _-_, _≤_, _<_}
 use native.Mathlib.Omega.{arith}
@@ -16,10 +16,10 @@ use Rattle.diag_rules.specs.Rule.{valueOf}
 use Rattle.diag_rules.specs.Answers.{judged}
 use Rattle.route64.specs.declared.Route64.{Route64}
 use Rattle.route64.specs.declared.RouteDataEntry.{RouteDataEntry}
-use Rattle.diag_rules.specs.Mask.{byteAt, assigned, routersOf, routesFit}
+use Rattle.diag_rules.specs.Mask.{byteAt, routersOf, routesFit}
 use Rattle.route64.specs.Routes.{routed, routeOf, maskOf, routes, zeroRoutes, laidOut, routeRow, rowsOf, routeRows, table}
 use Rattle.diag_rules.proofs.Kept.{Keeps, kept, read-refused}
-use Rattle.diag_rules.proofs.Mask.{rest, rest-all, rest-hit, rest-miss, rest-end, few, fit-length}
+use Rattle.diag_rules.proofs.Mask.{few, fit-length}
 
 -- each router has its row
 rows-length : (ks bs : List ℕ) → length ks ≤ length bs → length (rowsOf ks bs) ≡ length ks
@@ -47,60 +47,58 @@ lay-all xs h =
     sets-eq xs (replicate 64 (routeRow 0 0)) 0 (simp length-replicate (omega arith))
     ∙ simp zero-add (ap (λ (l : List RouteDataEntry). xs ++ l) (drop-replicate (length xs) 64 (routeRow 0 0)))
 
--- a loop that lays the rows: where it begins, one row more, no row more, and the end
-abbrev pub Laid : List ℕ → List RouteDataEntry → (n k : ℕ) → Type 0
-Laid v rows n k = lay rows n (rowsOf (rest k v) (drop (9 + n) v)) ≡ table (routeRows v)
+-- a loop that lays the rows of the routers ks that are left: where it begins, one row more, the same routers seen otherwise, and the end
+abbrev pub Laid : List ℕ → List RouteDataEntry → (n : ℕ) → (ks : List ℕ) → Type 0
+Laid v rows n ks = lay rows n (rowsOf ks (drop (9 + n) v)) ≡ table (routeRows v)
 
 module _ (v : List ℕ) where
-  pub laid-start : routesFit v ≡ true → Laid v (replicate 64 (routeRow 0 0)) 0 0
+  pub laid-start : routesFit v ≡ true → Laid v (replicate 64 (routeRow 0 0)) 0 (routersOf v)
   unfolding routeRows
-  laid-start h = rw (rest-all v) (lay-all (routeRows v) (omega (arith, fit-rows v h, few v)))
+  laid-start h = lay-all (routeRows v) (omega (arith, fit-rows v h, few v))
 
-  module _ (rows : List RouteDataEntry) (n k : ℕ) (h : k < 64) where
-    pub laid-hit : assigned v k ≡ true → 9 + n < length v → Laid v rows n k → Laid v (set rows n (routeRow k (getD v (9 + n) 0))) (n + 1) (k + 1)
+  module _ (rows : List RouteDataEntry) (n : ℕ) (ks : List ℕ) where
+    pub laid-hit : (k m : ℕ) (ms : List ℕ) → ks ≡ k ∷ ms → m ≡ k → 9 + n < length v → Laid v rows n ks → Laid v (set rows n (routeRow m (getD v (9 + n) 0))) (n + 1) ms
     unfolding lay rowsOf
-    laid-hit e l d =
+    laid-hit k m ms e same l d =
         let z : 9 + (n + 1) ≡ suc (9 + n) = omega arith in
-        rw (z, add-one n) (rw (rest-hit k v h e, drop-cons v (9 + n) 0 l) at d)
+        rw (same, z, add-one n) (rw (e, drop-cons v (9 + n) 0 l) at d)
 
-    pub laid-miss : assigned v k ≡ false → Laid v rows n k → Laid v rows n (k + 1)
-    laid-miss e d = rw (rest-miss k v h e) at d
+    pub laid-same : (ms : List ℕ) → ks ≡ ms → Laid v rows n ks → Laid v rows n ms
+    laid-same ms e d = rw e at d
 
-  pub laid-end : (rows : List RouteDataEntry) (n k : ℕ) → 64 ≤ k → Laid v rows n k → rows ≡ table (routeRows v)
-  unfolding lay rowsOf
-  laid-end rows n k h d = rw (rest-end k v h) at d
+    pub laid-end : ks ≡ [] → Laid v rows n ks → rows ≡ table (routeRows v)
+    unfolding lay rowsOf
+    laid-end h d = rw h at d
 
--- on the way to row k: the rows of the routers from i on, whose bytes start at the place at
+-- on the way to row k: the rows of the routers ks that are left, whose bytes start at the place at
 rows-out : (ks : List ℕ) → rowsOf ks [] ≡ []
 unfolding rowsOf
 rows-out [] = refl
 rows-out (k ∷ ks) = refl
 
-unfoldable pub rowsFrom : List ℕ → (i at : ℕ) → List RouteDataEntry
-rowsFrom v i at = rowsOf (rest i v) (drop at v)
+unfoldable pub rowsFrom : List ℕ → (ks : List ℕ) → (at : ℕ) → List RouteDataEntry
+rowsFrom v ks at = rowsOf ks (drop at v)
 
 module _ (v : List ℕ) where
-  pub row-start : rowsFrom v 0 9 ≡ routeRows v
+  pub row-start : rowsFrom v (routersOf v) 9 ≡ routeRows v
   unfolding rowsFrom routeRows
-  row-start = rw (rest-all v)
+  row-start = refl
 
-  module _ (i at : ℕ) where
-    pub row-out : length v ≤ at → rowsFrom v i at ≡ []
+  module _ (ks : List ℕ) (at : ℕ) where
+    pub row-out : length v ≤ at → rowsFrom v ks at ≡ []
     unfolding rowsFrom
-    row-out h = rw (drop-of-length-le v {i = at} h) (rows-out (rest i v))
+    row-out h = rw (drop-of-length-le v {i = at} h) (rows-out ks)
 
-    pub row-end : 64 ≤ i → rowsFrom v i at ≡ []
+    pub row-end : ks ≡ [] → rowsFrom v ks at ≡ []
     unfolding rowsFrom rowsOf
-    row-end h = rw (rest-end i v h)
+    row-end h = rw h
 
-    module _ (h : i < 64) where
-      pub row-hit : assigned v i ≡ true → at < length v → rowsFrom v i at ≡ routeRow i (getD v at 0) ∷ rowsFrom v (i + 1) (at + 1)
-      unfolding rowsFrom rowsOf
-      row-hit e l = rw (rest-hit i v h e, drop-cons v at 0 l, ← add-one at)
+    pub row-hit : (k : ℕ) (ms : List ℕ) → ks ≡ k ∷ ms → at < length v → rowsFrom v ks at ≡ routeRow k (getD v at 0) ∷ rowsFrom v ms (at + 1)
+    unfolding rowsFrom rowsOf
+    row-hit k ms e l = rw (e, drop-cons v at 0 l, ← add-one at)
 
-      pub row-miss : assigned v i ≡ false → rowsFrom v i at ≡ rowsFrom v (i + 1) at
-      unfolding rowsFrom
-      row-miss e = rw (rest-miss i v h e)
+    pub row-same : (ms : List ℕ) → ks ≡ ms → rowsFrom v ks at ≡ rowsFrom v ms at
+    row-same ms e = ap (λ (l : List ℕ). rowsFrom v l at) e
 
 -- the Route64 that a value is handed out as
 pub routes-are : (v mask : List ℕ) (rows : List RouteDataEntry) (k : ℕ) → routesFit v ≡ true → mask ≡ maskOf v → rows ≡ table (routeRows v)

@@ -57,7 +57,7 @@ fn route_row(router: u8, b: u8) -> RouteDataEntry
     }
 }
 
-// The rows of a Route64 that keeps its rule.
+// The rows of a Route64 that keeps its rule: of each mask byte the bits that are set, the high bit first; a byte that is zero is passed over.
 fn route_rows(v: &[u8]) -> [RouteDataEntry; 64]
     requires { ⌜ routesFit (now v) ≡ true ⌝ }
     ensures { λ r. ⌜ r ≡ table (routeRows (now (v .entry))) ⌝ }
@@ -65,17 +65,23 @@ fn route_rows(v: &[u8]) -> [RouteDataEntry; 64]
     let zero = route_row(0, 0);
     let mut rows = [zero; 64];
     let mut n: usize = 0;
-    let mut k: usize = 0;
-    while k < 64 {
-        let next = k + 1;
-        if diag_rules::assigns(v[1 + k / 8], k) {
-            let row = route_row(k as u8, v[ROUTES_AT + n]);
+    let mut j: usize = 0;
+    let mut left = v[1];
+    loop {
+        if left == 0 {
+            j += 1;
+            if j == diag_rules::ROUTER_ID_MASK_LEN {
+                return rows;
+            }
+            left = v[1 + j];
+        } else {
+            let bit = u8::leading_zeros(left) as u8;
+            let row = route_row((j as u8) * 8 + bit, v[ROUTES_AT + n]);
             rows[n] = row;
             n += 1;
+            left -= 128u8 >> bit;
         }
-        k = next;
     }
-    rows
 }
 
 // A Route64 of zeros.
@@ -126,24 +132,30 @@ fn route_at(v: &[u8], k: usize) -> ReadRoute
     requires { ⌜ 9 ≤ length (now v) ⌝ }
     ensures { λ r. ⌜ routeAnswer r ≡ nth (routeRows (now (v .entry))) k ⌝ }
 {
-    let mut left: usize = k;
+    let mut ahead: usize = k;
     let mut at: usize = ROUTES_AT;
-    let mut i: usize = 0;
-    while i < 64 {
-        let next = i + 1;
-        if diag_rules::assigns(v[1 + i / 8], i) {
+    let mut j: usize = 0;
+    let mut bits = v[1];
+    loop {
+        if bits == 0 {
+            j += 1;
+            if j == diag_rules::ROUTER_ID_MASK_LEN {
+                return ReadRoute::Absent;
+            }
+            bits = v[1 + j];
+        } else {
             if v.len() <= at {
                 return ReadRoute::Absent;
             }
-            if left == 0 {
-                return ReadRoute::Value(route_row(i as u8, v[at]));
+            let bit = u8::leading_zeros(bits) as u8;
+            if ahead == 0 {
+                return ReadRoute::Value(route_row((j as u8) * 8 + bit, v[at]));
             }
-            left -= 1;
+            ahead -= 1;
             at += 1;
+            bits -= 128u8 >> bit;
         }
-        i = next;
     }
-    ReadRoute::Absent
 }
 
 // Row k of a Route64, from 0 on. Refusals: those of `diag_rules::check_value` at place 0.

@@ -7,7 +7,7 @@ use Prim.Native.Nat.{ℕ, _<_}
 use lib.Dec.{T, eqb, eqb→eq}
 use Rattle.refusal.specs.Answer.{pick}
 use Rattle.utf8.specs.Utf8.{between, tail, one, two, three, four, octets, classOf}
-use Rattle.utf8.proofs.Below.{below}
+use Rattle.laws.proofs.Below.{below}
 
 -- a byte from low to high, and then what f asks of the rest
 unfoldable pub next : ℕ → ℕ → (List ℕ → Bool) → List ℕ → Bool

@@ -1,4 +1,3 @@
-pub mod Below
 pub mod Rule
 pub mod Firsts
 pub mod Places

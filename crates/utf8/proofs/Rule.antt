@@ -6,7 +6,7 @@ use Prim.Native.Nat.{ℕ, _<_}
 use lib.Dec.{eqb, eqb→eq}
 use lib.ListN.{getD, replicate}
 use Rattle.utf8.specs.Utf8.{classOf}
-use Rattle.utf8.proofs.Below.{below}
+use Rattle.laws.proofs.Below.{below}
 
 -- the table of src/classes.rt: the code's own has to compute to this list
 abbrev pub classes : List ℕ

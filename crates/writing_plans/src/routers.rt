@@ -23,28 +23,34 @@ fn route_row_fits(r: RouteDataEntry) -> bool
     r.route_cost <= 15
 }
 
-// The rows are those of the mask's set bits, ascending.
+// The rows are those of the mask's set bits, ascending; a mask byte that is zero is passed over.
 fn mask_agrees(t: Route64) -> bool
     requires { ⌜ t .count ≤ 64 ⌝ }
     ensures { λ r. ⌜ r ≡ maskAgrees (routeUsed t) ⌝ }
 {
     let mut n: usize = 0;
-    let mut k: usize = 0;
-    while k < 64 {
-        let next = k + 1;
-        if diag_rules::assigns(t.mask[k / 8], k) {
+    let mut j: usize = 0;
+    let mut left = t.mask[0];
+    loop {
+        if left == 0 {
+            j += 1;
+            if j == diag_rules::ROUTER_ID_MASK_LEN {
+                return n == t.count;
+            }
+            left = t.mask[j];
+        } else {
             if n >= t.count {
                 return false;
             }
+            let bit = u8::leading_zeros(left) as u8;
             let row = t.route_data[n];
-            if row.router_id as usize != k {
+            if row.router_id != (j as u8) * 8 + bit {
                 return false;
             }
             n += 1;
+            left -= 128u8 >> bit;
         }
-        k = next;
     }
-    n == t.count
 }
 
 fn rows_fit(t: Route64) -> bool

@@ -60,7 +60,7 @@ pub const ROUTE64: Maker = Maker {
     short: &[
         Family { size: 64 * 4, words: |number| bytes_word(&one_route(number % 64, 0x55 * (number / 64) as u8)) },
         Family { size: 256, words: |route| bytes_word(&one_route(0, route as u8)) },
-        Family { size: 256, words: |byte| bytes_word(&routes_of_byte(byte)) },
+        Family { size: 8 * 256, words: |number| bytes_word(&routes_of_byte(number % 8, number / 8)) },
     ],
     ..bare::<5>("d.5")
 };
@@ -70,10 +70,10 @@ fn one_route(router: usize, route: u8) -> Vec<u8> {
     [&[7], &(1u64 << (63 - router)).to_be_bytes()[..], &[route]].concat()
 }
 
-/// The routers of one byte of the mask, numbered by their route bytes.
-fn routes_of_byte(byte: usize) -> Vec<u8> {
+/// The routers of one byte of the mask, which stands at one of its eight places; their route bytes number them.
+fn routes_of_byte(place: usize, byte: usize) -> Vec<u8> {
     let mut value = with_first(9, byte as u8);
-    value[1 + byte % 8] = byte as u8;
+    value[1 + place] = byte as u8;
     value.extend(0..byte.count_ones() as u8);
     value
 }

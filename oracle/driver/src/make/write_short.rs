@@ -63,7 +63,7 @@ pub const SHORT: &[Family] = &[
     Family { size: 5 * 5 * 17, words: one_route },
     // Each router with its neighbours' numbers, and by itself with the mask of another.
     Family { size: 64 * 3, words: |number| router_alone(number / 3, (number / 3 + number % 3).wrapping_sub(1)) },
-    Family { size: 256, words: |byte| routers_of_byte(byte) },
+    Family { size: 8 * 256, words: |number| routers_of_byte(number % 8, number / 8) },
     Family { size: 34 * 5 * 8, words: one_child },
     Family { size: 515, words: |id| format!("5 16=16:0:{id}:110") },
     Family { size: 17 * 17, words: one_list },
@@ -128,10 +128,9 @@ fn router_alone(bit: usize, router: usize) -> String {
     format!("12 5=7,{mask:016x},{}:1:2:3", if router < 256 { router } else { 255 })
 }
 
-/// The routers of one byte of the mask.
-fn routers_of_byte(byte: usize) -> String {
-    let shift = 8 * (byte % 8);
-    let mask = (byte as u64) << (56 - shift);
+/// The routers of one byte of the mask, which stands at one of its eight places.
+fn routers_of_byte(place: usize, byte: usize) -> String {
+    let mask = (byte as u64) << (56 - 8 * place);
     let routers = (0..64).filter(|router| mask & (1 << (63 - router)) != 0);
     let rows: Vec<String> = routers.map(|router| format!("{router}:{}:1:{}", router % 4, router % 16)).collect();
     format!("19 5=0,{mask:016x},{}", if rows.is_empty() { "-".to_string() } else { rows.join("/") })
