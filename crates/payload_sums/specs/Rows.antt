@@ -1,5 +1,6 @@
 -- What the rows of a diagnostic record say as one number: the sum of their fields, modulo 2^64, each row as the call that hands it out gives it.
 -- Assumes nothing.
+use mathlib.Core.Path.{_≡_}
 use Prim.Native.Nat.{ℕ, zero, suc, _+_, _/_, _≤_}
 use mathlib.Core.List.{List, [], _∷_}
 use lib.ListN.{length, getD, take, drop}
@@ -33,6 +34,10 @@ maskSum mask = summed (λ k. getD mask k 0) 8
 -- all 64 rows: those past the count are zeros
 abbrev pub routesSum : List RouteDataEntry → ℕ
 routesSum rows = summed (λ k. routeSum (getD rows k (routeRow 0 0))) 64
+
+-- of a Route64 that was handed out as many as it counts are enough
+abbrev pub Counted : List RouteDataEntry → (count : ℕ) → Type 0
+Counted rows n = (n ≤ 64) × (summed (λ k. routeSum (getD rows k (routeRow 0 0))) n ≡ routesSum rows)
 
 unfoldable pub route64Sum : Route64 → ℕ
 route64Sum r = onto 0 (r .«id_sequence» ∷ maskSum (r .mask) ∷ routesSum (r .«route_data») ∷ [])

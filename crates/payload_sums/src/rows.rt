@@ -16,7 +16,7 @@ ghost use Rattle.diag.specs.Diag.{decode};
 ghost use Rattle.diag.specs.Answers.{optPart, diagOf};
 ghost use Rattle.refusal.specs.Answer.{given};
 ghost use Rattle.payload_sums.specs.Sums.{orZero};
-ghost use Rattle.payload_sums.specs.Rows.{routeSum, maskSum, routesSum, route64Sum, routes, childSum, childAt, children, addressAt, addressesSum, listOf, lists, inPart, payloadSum, Inside};
+ghost use Rattle.payload_sums.specs.Rows.{routeSum, maskSum, routesSum, Counted, route64Sum, routes, childSum, childAt, children, addressAt, addressesSum, listOf, lists, inPart, payloadSum, Inside};
 
 fn route_sum(r: RouteDataEntry) -> u64
     ensures { λ s. ⌜ s ≡ routeSum r ⌝ }
@@ -39,12 +39,14 @@ fn mask_sum(mask: [u8; 8]) -> u64
     n
 }
 
-fn routes_sum(rows: [RouteDataEntry; 64]) -> u64
+// The rows that are counted are read: those past them are zeros, and add nothing.
+fn routes_sum(rows: [RouteDataEntry; 64], count: usize) -> u64
+    requires { ⌜ Counted rows count ⌝ }
     ensures { λ r. ⌜ r ≡ routesSum rows ⌝ }
 {
     let mut n: u64 = 0;
     let mut k: usize = 0;
-    while k < 64 {
+    while k < count {
         n = plus(n, route_sum(rows[k]));
         k += 1;
     }
@@ -52,13 +54,14 @@ fn routes_sum(rows: [RouteDataEntry; 64]) -> u64
 }
 
 fn route64_sum(r: Route64) -> u64
+    requires { ⌜ Counted (r .«route_data») (r .count) ⌝ }
     ensures { λ s. ⌜ s ≡ route64Sum r ⌝ }
 {
     let mask = r.mask;
     let rows = r.route_data;
     let a = plus(0, r.id_sequence as u64);
     let b = plus(a, mask_sum(mask));
-    plus(b, routes_sum(rows))
+    plus(b, routes_sum(rows, r.count))
 }
 
 fn routes_in(payload: &[u8], p: OptPart) -> u64

@@ -28,6 +28,12 @@ rows-length [] bs h = refl
 rows-length (k ∷ ks) [] h = absurd (omega arith)
 rows-length (k ∷ ks) (b ∷ bs) h = ap suc (rows-length ks bs (omega arith))
 
+pub rows-few : (ks bs : List ℕ) → length (rowsOf ks bs) ≤ length ks
+unfolding rowsOf
+rows-few [] bs = omega arith
+rows-few (k ∷ ks) [] = omega arith
+rows-few (k ∷ ks) (b ∷ bs) = let few = rows-few ks bs in omega arith
+
 pub fit-rows : (v : List ℕ) → routesFit v ≡ true → length (routeRows v) ≡ length (routersOf v)
 unfolding routeRows
 fit-rows v h = rows-length (routersOf v) (drop 9 v) (simp length-drop (omega (arith, fit-length v h)))

@@ -20,7 +20,7 @@ plus-requires-2 : tie.Need-plus-requires-2
 plus-requires-2 c κs = tt
 
 routes-sum-requires : tie.Need-routes-sum-requires
-routes-sum-requires c κs = tt
+routes-sum-requires c κs = c .before .before .before .before .before .before .pre
 
 plus-requires-3 : tie.Need-plus-requires-3
 plus-requires-3 c κs = tt

@@ -1,8 +1,10 @@
 -- `payload_sums::rows::routes_in` meets its contract.
 -- Assumes nothing.
+use Rattle.diag_entries.specs.Answers.{bytesAt}
 use Rattle.payload_sums.specs.Rows.{route64Sum}
 use Rattle.route64.specs.Routes.{RouteRead}
 use Rattle.payload_sums.proofs.Rowed.{held}
+use Rattle.payload_sums.proofs.Routed.{read-counted}
 use mathlib.Core.Path.{ap, _∙_}
 use native.Mathlib.Omega.{arith}
 use native.Mathlib.Nat.{add-sub-cancel-left}
@@ -29,7 +31,11 @@ decode-route64-requires : tie.Need-decode-route64-requires
 decode-route64-requires c κs = tt
 
 route64-sum-requires : tie.Need-route64-sum-requires
-route64-sum-requires c κs = tt
+route64-sum-requires c κs =
+    let part = c .before .before .before .before in
+    let s = part .before .before .before .args .payload .now in
+    let start = part .p .given .0 .0 in
+    read-counted (bytesAt s start (part .p .given .0 .1 .0)) _ (simp add-sub-cancel-left at (c .before .decode-route64 .ensures))
 
 enum-told : tie.Need-enum-told
 enum-told c = search needs

@@ -1,6 +1,6 @@
 -- `payload_sums::rows::routes_sum` meets its contract. The invariant: what is summed so far is the sum of k rows.
 -- Assumes nothing.
-use mathlib.Core.Path.{_≡_, refl}
+use mathlib.Core.Path.{_≡_, refl, _∙_}
 use Prim.Native.Nat.{_-_, _≤_}
 use native.Mathlib.Omega.{arith}
 use lib.ListN.{getD}
@@ -12,10 +12,10 @@ use Rattle.payload_sums.proofs.rows.routes_sum.Statement.{statement}
 use Rattle.payload_sums.proofs.rows.routes_sum.Tie as tie
 
 abbrev Inv-loop : tie.InvT-loop
-Inv-loop rows n₀ k₀ n k = (k ≤ 64) × (n ≡ summed (λ i. routeSum (getD rows i (routeRow 0 0))) k)
+Inv-loop count rows n₀ k₀ n k = (k ≤ count) × (n ≡ summed (λ i. routeSum (getD rows i (routeRow 0 0))) k)
 
 abbrev μ-loop : tie.MeasureT-loop
-μ-loop rows n₀ k₀ n k = 64 - k
+μ-loop count rows n₀ k₀ n k = count - k
 
 loop-holds : tie.Need-loop-holds Inv-loop μ-loop
 unfolding summed
@@ -48,7 +48,7 @@ returns : tie.Need-returns Inv-loop μ-loop
 returns c =
     let l = c .before .loop in
     let all = c .loop-test .left in
-    summed-done _ _ _ _ (l .inv .1) (omega (arith, l .inv .0))
+    summed-done _ _ _ _ (l .inv .1) (omega (arith, l .inv .0)) ∙ c .before .before .pre .1
 
 pub routes-sum-spec : {M : Type 1} → statement M
 routes-sum-spec = tie.close (tie.spec Inv-loop μ-loop loop-holds mul-route-sum array-copy-out-route-sum route-sum-requires plus-requires add-k loop-less loop-again returns)
