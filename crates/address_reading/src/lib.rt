@@ -1,4 +1,6 @@
 // Text to an IPv6 address, by forms 1 and 2 of RFC 4291, section 2.2. An address to text is in `address_writing`.
+#![tactic(auto)]
+
 ghost use Rattle.std.specs.Prelude.{◌≡◌, [], ◌∷◌, ◌+◌, ◌/◌, ◌%◌, ◌≤◌, ◌<◌, length, replicate};
 ghost use Rattle.refusal.specs.Output.{output, emit, put, placing, written_answer};
 ghost use Rattle.address_forms.specs.AddressRead.{fields_of, gap_of, both_sides, text_address};

@@ -1,4 +1,6 @@
 // An IPv6 address as text, by RFC 5952, always in hexadecimal groups. Text to an address is in `address_reading`.
+#![tactic(auto)]
+
 ghost use Rattle.std.specs.Prelude.{◌≡◌, [], ◌∷◌, ◌+◌, ◌*◌, ◌≤◌, ◌<◌, eqb, length, drop};
 ghost use Rattle.refusal.specs.Answer.{pick, given};
 ghost use Rattle.refusal.specs.Output.{output, emit, put, placing, placed, written_answer};

@@ -1,4 +1,6 @@
 // Base 16 (RFC 4648, section 8): hex text to bytes. Bytes to hex text is in `hex_text`.
+#![tactic(auto)]
+
 ghost use Rattle.std.specs.Prelude.{◌≡◌, true, ◌*◌, ◌≤◌, ◌<◌, length};
 ghost use Rattle.refusal.specs.Output.{output, emit, put, written_answer};
 ghost use Rattle.base16.specs.Base16.{decoded};

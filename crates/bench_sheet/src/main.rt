@@ -1,5 +1,7 @@
 // Document 01's bench sheet, line by line and in its order: each line's input goes to the library's public call, and what comes back is compared
 // with what the sheet states. A line prints the input, what was got, and `as stated` or `NOT as stated` with what the sheet has.
+#![tactic(auto)]
+
 mod diag;
 mod framing;
 mod lengths;

@@ -4,7 +4,7 @@ use refusal::Written;
 use std::num::wrapping_add_u64;
 
 // How many lines were run, and how many of them gave what the sheet states.
-#[derive(Drop)]
+#[derive(Clone, Copy)]
 pub(crate) struct Score {
     pub(crate) lines: u64,
     pub(crate) good: u64,

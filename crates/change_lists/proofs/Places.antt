@@ -135,22 +135,22 @@ step_by_lem s at (o.Set t a n) i =
     rw k
 
 -- THE STEP, by what stands at the place
-pub op_step : (s : List ℕ) (at : ℕ) → ops_from s at ≡ step_by s at (op_frame_at s at)
-op_step s at =
+pub op_step_lem : (s : List ℕ) (at : ℕ) → ops_from s at ≡ step_by s at (op_frame_at s at)
+op_step_lem s at =
     ops_step s at ∙ ap (λ (x : FirstOp). op_step at (drop at s) x (λ (next : ℕ) (rest : List ℕ). ops_from s next)) (op_agrees s at)
     ∙ step_by_lem s at (op_frame_at s at) (op_inside s at)
 
 -- ---- what a turn of a loop over the operations learns, by what `operation_at` found at its place
 module _ (s : List ℕ) (at : ℕ) (r : OpFrame) (found : r ≡ op_frame_at s at) where
   pub turn_end : r ≡ o.End → ops_from s at ≡ ends_with clean
-  turn_end e = op_step s at ∙ ap (step_by s at) (sym found ∙ e)
+  turn_end e = op_step_lem s at ∙ ap (step_by s at) (sym found ∙ e)
 
   pub turn_bad : r ≡ o.Bad → ops_from s at ≡ ends_with (cut_at at)
-  turn_bad e = op_step s at ∙ ap (step_by s at) (sym found ∙ e)
+  turn_bad e = op_step_lem s at ∙ ap (step_by s at) (sym found ∙ e)
 
   module _ (t : ℕ) (e : r ≡ o.Remove t) where
     pub turn_removal : ops_from s at ≡ after (op_at at (remove t)) (ops_from s (at + 3))
-    turn_removal = op_step s at ∙ ap (step_by s at) (sym found ∙ e)
+    turn_removal = op_step_lem s at ∙ ap (step_by s at) (sym found ∙ e)
 
     pub removal_inside : at + 3 ≤ length s
     removal_inside = subst (OpInside s at) (sym found ∙ e) (op_inside s at)
@@ -160,7 +160,7 @@ module _ (s : List ℕ) (at : ℕ) (r : OpFrame) (found : r ≡ op_frame_at s at
 
   module _ (t a n : ℕ) (e : r ≡ o.Set t a n) where
     pub turn_set : ops_from s at ≡ after (op_at at (set (content t (take n (drop a s))))) (ops_from s (a + n))
-    turn_set = op_step s at ∙ ap (step_by s at) (sym found ∙ e)
+    turn_set = op_step_lem s at ∙ ap (step_by s at) (sym found ∙ e)
 
     pub set_within : (at + 4 ≤ a) × (a + n ≤ length s)
     set_within = subst (OpInside s at) (sym found ∙ e) (op_inside s at)

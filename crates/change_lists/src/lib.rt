@@ -1,4 +1,6 @@
 // Change lists: what stands at a place of one, and how many operations it has.
+#![tactic(auto)]
+
 ghost use Rattle.std.specs.Prelude.{◌≡◌, length, ltb, eqb};
 ghost use Rattle.refusal.specs.Sizes.{most_entries};
 ghost use Rattle.refusal.specs.Answer.{pick, given, refused, on_given};
@@ -13,7 +15,7 @@ use tlv::Frame;
 
 // What stands at a place of a list: a set, whose value is the len bytes from start on; a removal; an operation that is cut short or
 // has an unknown mark; or nothing.
-#[derive(Drop)]
+#[derive(Clone, Copy)]
 pub enum OpFrame {
     Set { ty: u8, start: usize, len: usize },
     Remove { ty: u8 },
@@ -21,7 +23,7 @@ pub enum OpFrame {
     End,
 }
 
-#[derive(Drop)]
+#[derive(Clone, Copy)]
 pub enum CountedOps {
     Operations(usize),
     Refused(Refusal),

@@ -232,14 +232,14 @@ module _ (m : List ℕ) (l : List OpAt) (g : Marks m l) (fit : Typed (bare l)) w
   pub chosen_is : (lo hi : ℕ) → Between lo hi l → chosen m l ≡ puts (sets_of (lasts (bare l)))
   chosen_is lo hi b = puts_is m lo hi l b fit (λ t h e. g.is t h)
 
-  gone_below : (n : ℕ) → n ≤ 256 → gone_below n m ≡ removals_below n (lasts (bare l))
+  gone_below_lem : (n : ℕ) → n ≤ 256 → gone_below n m ≡ removals_below n (lasts (bare l))
   unfolding gone_below removals_below
-  gone_below zero h = refl
-  gone_below (suc n) h = rw (gone_below n (omega arith), g.is n (omega arith), removes_is n l) refl
+  gone_below_lem zero h = refl
+  gone_below_lem (suc n) h = rw (gone_below_lem n (omega arith), g.is n (omega arith), removes_is n l) refl
 
   pub gone_is : gone_below 256 m ≡ removals_below types (lasts (bare l))
   unfolding types
-  gone_is = gone_below 256 (omega arith)
+  gone_is = gone_below_lem 256 (omega arith)
 
   zero_is : (t : ℕ) → eqb (get_or m t 0) 0 ≡ not (touches (bare l) t)
   unfolding types

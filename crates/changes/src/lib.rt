@@ -1,4 +1,6 @@
 // Change lists: operations on a dataset, run one after the other and folded to one shortest list.
+#![tactic(auto)]
+
 ghost use Rattle.std.specs.Prelude.{◌≡◌, ℕ, ◌+◌, ◌*◌, ◌≤◌, length};
 ghost use Rattle.refusal.specs.Sizes.{most_bytes, most_value};
 ghost use Rattle.refusal.specs.Output.{output, emit, written_answer, put};
@@ -17,7 +19,7 @@ use refusal::{Fault, Written};
 use tlv::{Counted, Frame};
 
 // The bytes that some entries take as they are written, and their number.
-#[derive(Drop)]
+#[derive(Clone, Copy)]
 struct Extent {
     bytes: usize,
     entries: usize,

@@ -1,4 +1,6 @@
 // The items of a channel mask (dataset.rs), read from its bytes and written.
+#![tactic(auto)]
+
 ghost use Rattle.std.specs.Prelude.{◌≡◌, length};
 ghost use Rattle.refusal.specs.Answer.{on_given};
 ghost use Rattle.refusal.specs.Output.{output, emit, written_answer};
@@ -7,7 +9,7 @@ ghost use Rattle.channel_masks.specs.Mask.{items, item_at, item_written, mask_an
 use refusal::{Fault, Refusal, Written};
 
 // What stands at a place of a channel mask: an item, whose bytes are the len bytes from start on; one that is cut short; or nothing.
-#[derive(Drop)]
+#[derive(Clone, Copy)]
 pub enum MaskItem {
     Item { page: u8, start: usize, len: usize },
     Cut,
@@ -15,7 +17,7 @@ pub enum MaskItem {
 }
 
 // How many items a channel mask has.
-#[derive(Drop)]
+#[derive(Clone, Copy)]
 pub enum ReadMask {
     Items(usize),
     Absent,

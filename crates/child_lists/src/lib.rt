@@ -1,4 +1,6 @@
 // The address lists (type 30) among the entries of a diagnostic payload (decode.rs).
+#![tactic(auto)]
+
 ghost use Rattle.std.specs.Prelude.{◌≡◌, ◌+◌, ◌≤◌, length};
 ghost use Rattle.refusal.specs.Answer.{on_given};
 ghost use Rattle.refusal.specs.Numbered.{nth};

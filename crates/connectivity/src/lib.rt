@@ -1,4 +1,6 @@
 // Connectivity, type 4 of a network-diagnostic payload (decode.rs, model.rs), read from its own bytes.
+#![tactic(auto)]
+
 ghost use Rattle.std.specs.Prelude.{◌≡◌, ◌≤◌, length};
 ghost use Rattle.refusal.specs.Answer.{on_given};
 ghost use Rattle.diag_rules.specs.Rule.{value_of};
@@ -11,7 +13,7 @@ use diag_values::{OptU8, OptU16};
 use refusal::Refusal;
 
 // The priority is 1 high, 0 medium, -1 low, -2 reserved.
-#[derive(Drop)]
+#[derive(Clone, Copy)]
 pub struct Connectivity {
     pub parent_priority: i8,
     pub link_quality_3: u8,
@@ -25,7 +27,7 @@ pub struct Connectivity {
 }
 
 // A value that was read. `Absent` is for queries that find no value to read.
-#[derive(Drop)]
+#[derive(Clone, Copy)]
 pub enum ReadConnectivity {
     Value(Connectivity),
     Absent,

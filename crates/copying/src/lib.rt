@@ -1,4 +1,6 @@
 // Bytes put into a lent output.
+#![tactic(auto)]
+
 ghost use Rattle.std.specs.Prelude.{◌≡◌, ◌+◌, ◌≤◌, length};
 ghost use Rattle.refusal.specs.Output.{put, placing, placed};
 

@@ -1,4 +1,6 @@
 // A dataset (dataset.rs): its queries for a value that has a type of its own.
+#![tactic(auto)]
+
 ghost use Rattle.std.specs.Prelude.{◌≡◌, List, ℕ};
 ghost use Rattle.wire.specs.Be.{be, answer16, answer32};
 ghost use Rattle.values.specs.Typed.{channel_of, channel_answer, policy_of, policy_answer};

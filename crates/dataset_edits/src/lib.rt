@@ -1,4 +1,6 @@
 // The edits of a dataset (dataset.rs).
+#![tactic(auto)]
+
 ghost use Rattle.std.specs.Prelude.{◌≡◌};
 ghost use Rattle.refusal.specs.Output.{output, emit, written_answer};
 ghost use Rattle.tlv_rewriting.specs.Rewrite.{rewritten, with_set};

@@ -1,4 +1,6 @@
 // A dataset to and from hex text (dataset.rs).
+#![tactic(auto)]
+
 ghost use Rattle.std.specs.Prelude.{◌≡◌};
 ghost use Rattle.refusal.specs.Output.{output, emit, written_answer};
 ghost use Rattle.dataset_hex.specs.Hex.{hex_of, well_framed, from_hex};

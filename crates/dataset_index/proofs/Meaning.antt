@@ -87,9 +87,9 @@ module _ (s x : List ℕ) where
       unfolding last_spot last_entry
       by_index_lem = held (λ (y : List ℕ). by_index ty s y ≡ on_given spot (then_do (framed 0 s) (last_of ty absent))) (λ es e. found_by_index ty s es small e ∙ rw e)
 
-      pub value_by_index : value_by_index ty s x ≡ last_value ty s
+      pub value_by_index_lem : value_by_index ty s x ≡ last_value ty s
       unfolding value_by_index
-      value_by_index = ap (part_or s) by_index_lem ∙ part_is (last_spot ty 0 s) refl
+      value_by_index_lem = ap (part_or s) by_index_lem ∙ part_is (last_spot ty 0 s) refl
         where
           part_is : (y : Answer Spot) → y ≡ last_spot ty 0 s → part_or s y ≡ last_value ty s
           part_is (given e) h = (spot_part s ty e.place e.start e.len h).1

@@ -33,9 +33,9 @@ later_by ty best [] = refl
 later_by ty best (e ∷ es) =
     ap (λ (p : ℕ). later_place ty p es) (place_by (eqb e.ty ty) e best) ∙ later_by ty (pick (eqb e.ty ty) (given e) best) es
 
-later_place : (ty : ℕ) (es : List Entry) → later_place ty 0 es ≡ last_place ty es
+later_place_lem : (ty : ℕ) (es : List Entry) → later_place ty 0 es ≡ last_place ty es
 unfolding last_place
-later_place ty es = later_by ty absent es
+later_place_lem ty es = later_by ty absent es
 
 module _ (t : ℕ) (e : Entry) (es : List Entry) where
   pub many_hit : e.ty ≡ t → how_many t (e ∷ es) ≡ suc (how_many t es)
@@ -76,7 +76,7 @@ find_start s es h = record {
   long_place = refl;
   few = λ t k. rw (get_or-replicate {A = ℕ} 256 t 0 0 k) (omega arith);
   many = λ t k. rw (get_or-replicate {A = ℕ} 256 t 0 0 k, h) (zero-add _);
-  last = λ t k. rw (get_or-replicate {A = ℕ} 256 t 0 0 k, h) (later_place t (framing s).entries);
+  last = λ t k. rw (get_or-replicate {A = ℕ} 256 t 0 0 k, h) (later_place_lem t (framing s).entries);
 }
 
 -- a turn: an entry of type x, and after it es

@@ -1,4 +1,6 @@
 // An index beside a dataset's bytes: for each of the 256 types how many entries, and where the last begins. It is kept as it is stored.
+#![tactic(auto)]
+
 ghost use Rattle.std.specs.Prelude.{◌≡◌, [], ◌∷◌, ◌+◌, ◌≤◌, length, drop, replicate};
 ghost use Rattle.refusal.specs.Sizes.{most_bytes};
 ghost use Rattle.refusal.specs.Answer.{pick, given, refused};
@@ -28,21 +30,21 @@ fn constants() -> [usize; 1]
 }
 
 // For each type how many entries, and the place of the last: both fit, since a dataset has at most `refusal::MAX_BYTES`.
-#[derive(Drop)]
+#[derive(Clone, Copy)]
 struct Table {
     count: [u16; 256],
     place: [u16; 256],
 }
 
 // Whether a stored index is the dataset's.
-#[derive(Drop)]
+#[derive(Clone, Copy)]
 pub enum Loaded {
     Current,
     Refused(Refusal),
 }
 
 // What one pass over the entries gives: the table, and how many they are, or 2 or 3.
-#[derive(Drop)]
+#[derive(Clone, Copy)]
 struct Collected {
     table: Table,
     counted: Counted,

@@ -38,11 +38,11 @@ is_given (given x) = true
 is_given absent = false
 is_given (refused n p i) = false
 
-on_given : {A B : Type 0} (g : A → B) (a : Answer A) → is_given (on_given g a) ≡ is_given a
+on_given_lem : {A B : Type 0} (g : A → B) (a : Answer A) → is_given (on_given g a) ≡ is_given a
 unfolding is_given
-on_given g (given x) = refl
-on_given g absent = refl
-on_given g (refused n p i) = refl
+on_given_lem g (given x) = refl
+on_given_lem g absent = refl
+on_given_lem g (refused n p i) = refl
 
 on_refused : {A B C : Type 0} (g : A → B) (h : A → C) (a : Answer A) (n p i : ℕ) → refused n p i ≡ on_given g a → refused n p i ≡ on_given h a
 on_refused g h (given x) n p i k = absurd (let z : ◌≡◌ {A = ℕ} 0 1 = cc in omega arith)
@@ -76,7 +76,7 @@ module _ {A : Type 0} (g : Entry → Answer A) where
 name_given : (place : ℕ) (v : List ℕ) (r : Checked) → OneOf (0 ∷ 1 ∷ []) (tag_of Checked.the_type r) → checked_answer r ≡ checked (name_at place v)
     → is_given (name_at place v) ≡ true
 unfolding is_given
-name_given place v c.Valid k told = sym (ap is_given told ∙ on_given _ (name_at place v))
+name_given place v c.Valid k told = sym (ap is_given told ∙ on_given_lem _ (name_at place v))
 name_given place v c.Absent k told = absurd (name_there place v told)
 name_given place v (c.Refused q) k told = ⊎_elim (λ e. absurd (omega arith)) (λ e. absurd (omega arith)) k
 
@@ -101,7 +101,7 @@ module _ (s : List ℕ) where
       pub name_kept : OneOf (0 ∷ 1 ∷ []) (tag_of Checked.the_type k) → given (spot_at p a n) ≡ on_given spot (name_entry s)
       unfolding last_spot
       name_kept tag =
-          let there = ap is_given name_at_lem.1 ∙ on_given _ (name_at p (take n (drop a s))) ∙ name_given p _ k tag told in
+          let there = ap is_given name_at_lem.1 ∙ on_given_lem _ (name_at p (take n (drop a s))) ∙ name_given p _ k tag told in
           sym (ap found_answer is) ∙ says ∙ ap (on_given spot) (sym (name_is there))
 
       pub name_refused : (q : Refusal) → k ≡ c.Refused q → refusal_answer q ≡ on_given spot (name_entry s)
@@ -114,12 +114,12 @@ module _ (s : List ℕ) where
     unfolding is_given last_spot last_value
     name_part p a n is =
         let told = sym (ap found_answer is) ∙ says in
-        let same = name_is (sym (ap is_given told ∙ on_given spot (name_entry s))) in
+        let same = name_is (sym (ap is_given told ∙ on_given_lem spot (name_entry s))) in
         let part = spot_part s 3 p a n (told ∙ ap (on_given spot) same) in
         (part.0, part.1 ∙ ap value_or (sym same))
 
     pub name_none : OneOf (1 ∷ 2 ∷ []) (tag_of Found.the_type r) → [] ≡ value_or (name_entry s)
-    name_none k = no_value (name_entry s) (sym (on_given spot (name_entry s)) ∙ ap is_given (sym says) ∙ not_found r k)
+    name_none k = no_value (name_entry s) (sym (on_given_lem spot (name_entry s)) ∙ ap is_given (sym says) ∙ not_found r k)
 
 -- ---- the channel mask
 
@@ -154,9 +154,9 @@ module _ (s : List ℕ) where
   abbrev spot_of : MaskSpot → Spot
   spot_of x = spot_at x.place x.start x.len
 
-  mask_spot : on_given spot_of (mask_spot s) ≡ on_given spot (mask_entry s)
+  mask_spot_lem : on_given spot_of (mask_spot s) ≡ on_given spot (mask_entry s)
   unfolding mask_spot mask_entry
-  mask_spot = both (last_entry 53 0 s)
+  mask_spot_lem = both (last_entry 53 0 s)
     where
       one : (e : Entry) (x : Answer (List Masked))
           → on_given spot_of (on_given (λ (is : List Masked). mask_at e.place e.start (length e.value) (length is)) x)
@@ -175,14 +175,14 @@ module _ (s : List ℕ) where
 
   module _ (r : FoundMask) (says : found_mask_answer r ≡ mask_spot s) where
     mask_kind : is_given (mask_entry s) ≡ is_given (found_mask_answer r)
-    mask_kind = sym (on_given spot (mask_entry s)) ∙ ap is_given (sym mask_spot) ∙ on_given spot_of (mask_spot s) ∙ ap is_given (sym says)
+    mask_kind = sym (on_given_lem spot (mask_entry s)) ∙ ap is_given (sym mask_spot_lem) ∙ on_given_lem spot_of (mask_spot s) ∙ ap is_given (sym says)
 
     pub mask_part : (p a n k : ℕ) → r ≡ m.At p a n k → (a + n ≤ length s) × (take n (drop a s) ≡ value_or (mask_entry s))
     unfolding is_given last_spot last_value
     mask_part p a n k is =
         let there = mask_kind ∙ ap (λ (q : FoundMask). is_given (found_mask_answer q)) is in
         let same = mask_is there in
-        let told = ap (on_given spot_of) (sym (ap found_mask_answer is) ∙ says) ∙ mask_spot ∙ ap (on_given spot) same in
+        let told = ap (on_given spot_of) (sym (ap found_mask_answer is) ∙ says) ∙ mask_spot_lem ∙ ap (on_given spot) same in
         let part = spot_part s 53 p a n told in
         (part.0, part.1 ∙ ap value_or (sym same))
 

@@ -1,4 +1,6 @@
 // A dataset (dataset.rs): the network name and the channel mask, which are handed out as parts of it where they are good.
+#![tactic(auto)]
+
 ghost use Rattle.std.specs.Prelude.{◌≡◌};
 ghost use Rattle.refusal.specs.Answer.{on_given};
 ghost use Rattle.tlv_last.specs.Last.{spot, value_or};
@@ -22,7 +24,7 @@ fn constants() -> [u8; 2]
 }
 
 // Where a channel mask lies, and how many items it has.
-#[derive(Drop)]
+#[derive(Clone, Copy)]
 pub enum FoundMask {
     At {
         place: usize,

@@ -1,4 +1,6 @@
 // A dataset (dataset.rs): the last value of a type as it is, and the PSKc, which has no rule of its own.
+#![tactic(auto)]
+
 ghost use Rattle.std.specs.Prelude.{◌≡◌};
 ghost use Rattle.dataset_raw.specs.Types.{raw_types};
 ghost use Rattle.tlv_last.specs.Last.{last_spot, last_value};

@@ -1,4 +1,6 @@
 // The working delay of a pending dataset, and the second at which it is due.
+#![tactic(auto)]
+
 ghost use Rattle.std.specs.Prelude.{◌≡◌, [], ◌∷◌};
 ghost use Rattle.delay.specs.Delay.{default_delay, half_minute, most_now, delay_or, due_or, working_delay, working_delay_half_minute, due_second, due_second_half_minute};
 ghost use Rattle.delay.specs.Answers.{working_answer, due_answer};
@@ -29,13 +31,13 @@ fn wide_constants() -> [u64; 1]
 }
 
 // A delay in milliseconds. It is never absent.
-#[derive(Drop)]
+#[derive(Clone, Copy)]
 pub enum WorkingDelay {
     Milliseconds(u32),
     Refused(Refusal),
 }
 
-#[derive(Drop)]
+#[derive(Clone, Copy)]
 pub enum DueSecond {
     Second(u64),
     Refused(Refusal),

@@ -1,4 +1,6 @@
 // What a diagnostic payload says (decode.rs, model.rs): the record of its values, those that stay in the payload as parts of it.
+#![tactic(auto)]
+
 ghost use Rattle.std.specs.Prelude.{◌≡◌, ◌<◌};
 ghost use Rattle.refusal.specs.Answer.{on_given};
 ghost use Rattle.wire.specs.Be.{be};
@@ -22,59 +24,59 @@ use tlv_last::Found;
 use wire::{Read16, Read32};
 
 // A field that may be missing.
-#[derive(Drop)]
+#[derive(Clone, Copy)]
 pub enum OptU32 {
     Some(u32),
     None,
 }
 
-#[derive(Drop)]
+#[derive(Clone, Copy)]
 pub enum OptMode {
     Some(ModeData),
     None,
 }
 
-#[derive(Drop)]
+#[derive(Clone, Copy)]
 pub enum OptConnectivity {
     Some(Connectivity),
     None,
 }
 
-#[derive(Drop)]
+#[derive(Clone, Copy)]
 pub enum OptLeaderData {
     Some(LeaderData),
     None,
 }
 
-#[derive(Drop)]
+#[derive(Clone, Copy)]
 pub enum OptMacCounters {
     Some(MacCounters),
     None,
 }
 
 // A value that stays in the payload: the len bytes from start on.
-#[derive(Drop)]
+#[derive(Clone, Copy)]
 pub enum OptPart {
     Some { start: usize, len: usize },
     None,
 }
 
 // Where Network Data stands in the payload, and how many records it has.
-#[derive(Drop)]
+#[derive(Clone, Copy)]
 pub struct NetworkDataPart {
     pub start: usize,
     pub len: usize,
     pub counts: Counts,
 }
 
-#[derive(Drop)]
+#[derive(Clone, Copy)]
 pub enum OptNetworkData {
     Some(NetworkDataPart),
     None,
 }
 
 // A payload's values, the last of each type; of type 30 how many lists there are (`child_lists::child_list` hands them out).
-#[derive(Drop)]
+#[derive(Clone, Copy)]
 pub struct NetDiagData {
     pub ext_mac_addr: OptPart,
     pub mac_addr: OptU16,
@@ -95,14 +97,14 @@ pub struct NetDiagData {
     pub child_ipv6_addresses: usize,
 }
 
-#[derive(Drop)]
+#[derive(Clone, Copy)]
 pub enum Decoded {
     Data(NetDiagData),
     Refused(Refusal),
 }
 
 // For each type below 32: how many entries have it, and where the last of them lies.
-#[derive(Drop)]
+#[derive(Clone, Copy)]
 struct Places {
     count: [usize; 32],
     place: [usize; 32],

@@ -1,4 +1,6 @@
 // The bridge to `diag_tables::decode` for callers that have tables by value: parts of them are lent to it, and they come back.
+#![tactic(auto)]
+
 ghost use Rattle.std.specs.Prelude.{◌≡◌, ◌≤◌};
 ghost use Rattle.network_bridge.specs.Parts.{places, lent_of};
 ghost use Rattle.diag_bridge.specs.Parts.{left_whole, outcome_of};
@@ -8,7 +10,7 @@ use network_bridge::{PLACES, Tables};
 use network_data::{BorderRouterEntry, HasRouteEntry, PrefixEntry};
 
 // The answer of a call, and the tables as it left them.
-#[derive(Drop)]
+#[derive(Clone, Copy)]
 pub struct Left {
     pub answer: Decoded,
     pub tables: Tables,

@@ -1,4 +1,6 @@
 // The entries of a diagnostic payload (decode.rs): that each of them decodes.
+#![tactic(auto)]
+
 ghost use Rattle.std.specs.Prelude.{◌≡◌, length};
 ghost use Rattle.refusal.specs.Answer.{on_given};
 ghost use Rattle.tlv.specs.Answers.{counted_answer};

@@ -1,5 +1,7 @@
 // The values of a network-diagnostic payload that have rows (decode.rs, model.rs): a child table, addresses, and a child's address list. Routes are in
 // `route64`.
+#![tactic(auto)]
+
 ghost use Rattle.std.specs.Prelude.{◌≡◌, List, ℕ, ◌+◌, ◌%◌, ◌≤◌, length};
 ghost use Rattle.refusal.specs.Answer.{on_given, then_do};
 ghost use Rattle.refusal.specs.Numbered.{nth};
@@ -13,7 +15,7 @@ use diag_values::ModeData;
 use refusal::Refusal;
 
 // One row of a child table.
-#[derive(Drop)]
+#[derive(Clone, Copy)]
 pub struct ChildTableEntry {
     pub timeout_exponent: u8,
     pub incoming_link_quality: u8,
@@ -22,7 +24,7 @@ pub struct ChildTableEntry {
 }
 
 // The addresses of a child are the len bytes of the value from start on: an IPv6 address list of its own.
-#[derive(Drop)]
+#[derive(Clone, Copy)]
 pub struct ChildIpv6AddrInfo {
     pub rloc16: u16,
     pub child_id: u16,
@@ -31,14 +33,14 @@ pub struct ChildIpv6AddrInfo {
 }
 
 // A value that was read. `Absent` is for queries that find no value to read, and for a row past the last.
-#[derive(Drop)]
+#[derive(Clone, Copy)]
 pub enum ReadAddressList {
     Value(ChildIpv6AddrInfo),
     Absent,
     Refused(Refusal),
 }
 
-#[derive(Drop)]
+#[derive(Clone, Copy)]
 pub enum ReadChild {
     Value(ChildTableEntry),
     Absent,
@@ -46,7 +48,7 @@ pub enum ReadChild {
 }
 
 // A part of a value: the len bytes from start on.
-#[derive(Drop)]
+#[derive(Clone, Copy)]
 pub enum ReadPart {
     Part { start: usize, len: usize },
     Absent,

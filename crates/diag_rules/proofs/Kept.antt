@@ -99,9 +99,9 @@ module _ (place : ℕ) (v : List ℕ) where
   unfolding keeps_rule
   counters_size e = eqb-true _ _ (kept 9 place v e).1
 
-  pub routes_fit : Keeps 5 place v → routes_fit v ≡ true
+  pub routes_fit_lem : Keeps 5 place v → routes_fit v ≡ true
   unfolding keeps_rule
-  routes_fit e = (kept 5 place v e).1
+  routes_fit_lem e = (kept 5 place v e).1
 
   list_tests : Keeps 30 place v → (leb 2 (length v) ≡ true) × (eqb ((length v - 2) % 16) 0 ≡ true)
   unfolding keeps_rule

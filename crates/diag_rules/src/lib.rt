@@ -1,4 +1,6 @@
 // The types of the values of a network-diagnostic payload, and whether a value keeps the rule of its type (decode.rs), which is one for its length.
+#![tactic(auto)]
+
 ghost use Rattle.std.specs.Prelude.{◌≡◌, ◌≤◌, length};
 ghost use Rattle.diag_rules.specs.Mask.{bit_of, routers_of, routes_fit};
 ghost use Rattle.diag_rules.specs.Rule.{diag_types, part_sizes, keeps_rule, value_of};
@@ -79,7 +81,7 @@ fn size_constants() -> [usize; 2]
 }
 
 // Whether a value keeps the sizes and the rule of its type.
-#[derive(Drop)]
+#[derive(Clone, Copy)]
 pub enum Judged {
     Kept,
     Refused(Refusal),

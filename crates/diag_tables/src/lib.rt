@@ -1,4 +1,6 @@
 // What a diagnostic payload says, with the records of its Network Data in the caller's tables (`NetDiagData::decode` of decode.rs).
+#![tactic(auto)]
+
 ghost use Rattle.std.specs.Prelude.{◌≡◌};
 ghost use Rattle.refusal.specs.Answer.{pick, given, refused};
 ghost use Rattle.network_plans.specs.Planned.{room_for};

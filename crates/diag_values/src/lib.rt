@@ -1,5 +1,7 @@
 // The values of a network-diagnostic payload (decode.rs, model.rs) that are one number or one record, each read from its own bytes. Those with rows
 // are in `diag_rows` and `route64`, Connectivity in `connectivity`; Network Data, type 7, is in none of them.
+#![tactic(auto)]
+
 ghost use Rattle.std.specs.Prelude.{◌≡◌, List, ℕ, ◌+◌, ◌≤◌, length};
 ghost use Rattle.refusal.specs.Answer.{on_given};
 ghost use Rattle.diag_rules.specs.Mask.{byte_at};
@@ -11,27 +13,27 @@ use diag_rules::Judged;
 use refusal::Refusal;
 
 // A field that may be missing.
-#[derive(Drop)]
+#[derive(Clone, Copy)]
 pub enum OptU8 {
     Some(u8),
     None,
 }
 
-#[derive(Drop)]
+#[derive(Clone, Copy)]
 pub enum OptU16 {
     Some(u16),
     None,
 }
 
 // The bits of an MLE Mode byte.
-#[derive(Drop)]
+#[derive(Clone, Copy)]
 pub struct ModeData {
     pub rx_on_when_idle: bool,
     pub is_mtd: bool,
     pub requires_full_network_data: bool,
 }
 
-#[derive(Drop)]
+#[derive(Clone, Copy)]
 pub struct LeaderData {
     pub partition_id: u32,
     pub weighting: u8,
@@ -40,7 +42,7 @@ pub struct LeaderData {
     pub router_id: u8,
 }
 
-#[derive(Drop)]
+#[derive(Clone, Copy)]
 pub struct MacCounters {
     pub if_in_unknown_protos: u32,
     pub if_in_errors: u32,
@@ -54,28 +56,28 @@ pub struct MacCounters {
 }
 
 // A value that was read. `Absent` is for queries that find no value to read.
-#[derive(Drop)]
+#[derive(Clone, Copy)]
 pub enum Read8 {
     Value(u8),
     Absent,
     Refused(Refusal),
 }
 
-#[derive(Drop)]
+#[derive(Clone, Copy)]
 pub enum ReadMode {
     Value(ModeData),
     Absent,
     Refused(Refusal),
 }
 
-#[derive(Drop)]
+#[derive(Clone, Copy)]
 pub enum ReadLeaderData {
     Value(LeaderData),
     Absent,
     Refused(Refusal),
 }
 
-#[derive(Drop)]
+#[derive(Clone, Copy)]
 pub enum ReadMacCounters {
     Value(MacCounters),
     Absent,

@@ -35,7 +35,7 @@ use Rattle.writing_walks.specs.declared.Prefixes.{Prefixes}
 use Rattle.writing_walks.specs.declared.Used.{Used}
 use Rattle.diag_writing.proofs.Both.{both_true, true_both, pick_more, same_test, Near, near_same}
 use Rattle.diag_writing.proofs.Folds.{take_least, prefixes_size, Summed, summed, all_pass}
-use Rattle.diag_writing.proofs.Nets.{network_fits}
+use Rattle.diag_writing.proofs.Nets.{network_fits_lem}
 
 -- ---- parts
 module _ (s : List ℕ) where
@@ -54,11 +54,11 @@ module _ (s : List ℕ) where
   eui64_by absent h = refl
   eui64_by (refused n p i) h = refl
 
-pub route_by : (t : Route64) (a : Answer Part) → pick (passes (λ (q : Part). routes_counted t) a) (passes route64_fits (on_given (λ (q : Part). route_used t) a)) false ≡ passes (route_by t) a
+pub route_by_lem : (t : Route64) (a : Answer Part) → pick (passes (λ (q : Part). routes_counted t) a) (passes route64_fits (on_given (λ (q : Part). route_used t) a)) false ≡ passes (route_by t) a
 unfolding passes route_by
-route_by t (given q) = refl
-route_by t absent = refl
-route_by t (refused n p i) = refl
+route_by_lem t (given q) = refl
+route_by_lem t absent = refl
+route_by_lem t (refused n p i) = refl
 
 -- ---- child rows
 whole_rows : {A : Type 0} (cs : List A) (n : ℕ) → eqb (length (take (n / 3) cs) * 3) n ≡ pick (eqb (n % 3) 0) (leb (n / 3) (length cs)) false
@@ -82,15 +82,15 @@ whole_rows cs n =
     let w = leb-true (n / 3) (length cs) p.1 in
     absurd (omega arith)))
 
-pub children_by : (cs : List ChildTableEntry) (x : Used) (c : Bool) (a : Answer Part) → x.children_lent ≡ length cs → c ≡ all child_fits (take (children_used a (length cs)) cs)
+pub children_by_lem : (cs : List ChildTableEntry) (x : Used) (c : Bool) (a : Answer Part) → x.children_lent ≡ length cs → c ≡ all child_fits (take (children_used a (length cs)) cs)
     → pick (passes (children_agree cs) a) (passes (all child_fits) (on_given (children_of cs) a)) false ≡ passes (children_by x c) a
 unfolding passes children_by children_used
-children_by cs x c (given q) e k =
+children_by_lem cs x c (given q) e k =
     ap (λ (b : Bool). pick b (all child_fits (take (q.len / 3) cs)) false) (whole_rows cs q.len)
     ∙ pick_more (eqb (q.len % 3) 0) (leb (q.len / 3) (length cs)) (all child_fits (take (q.len / 3) cs))
     ∙ rw (e, k ∙ ap (all child_fits) (take_least (q.len / 3) cs))
-children_by cs x c absent e k = refl
-children_by cs x c (refused n p i) e k = refl
+children_by_lem cs x c absent e k = refl
+children_by_lem cs x c (refused n p i) e k = refl
 
 -- ---- address lists
 list_by : (s : List ℕ) (x : ChildIpv6AddrInfo) → pick (list_inside s x) (list_fits (list_of s x)) false ≡ list_fits_in (length s) x
@@ -117,11 +117,11 @@ swap true false false d = refl
 swap false b true d = refl
 swap false b false d = refl
 
-pub lists_by : (s : List ℕ) (xs : List ChildIpv6AddrInfo) → pick (all (list_inside s) xs) (all list_fits (map (list_of s) xs)) false ≡ all (list_fits_in (length s)) xs
+pub lists_by_lem : (s : List ℕ) (xs : List ChildIpv6AddrInfo) → pick (all (list_inside s) xs) (all list_fits (map (list_of s) xs)) false ≡ all (list_fits_in (length s)) xs
 unfolding all
-lists_by s [] = refl
-lists_by s (x ∷ xs) =
-    swap (list_inside s x) (all (list_inside s) xs) (list_fits (list_of s x)) (all list_fits (map (list_of s) xs)) ∙ rw (list_by s x, lists_by s xs)
+lists_by_lem s [] = refl
+lists_by_lem s (x ∷ xs) =
+    swap (list_inside s x) (all (list_inside s) xs) (list_fits (list_of s x)) (all list_fits (map (list_of s) xs)) ∙ rw (list_by s x, lists_by_lem s xs)
 
 -- ---- tables of Network Data
 pub record Tabled (x : Used) (f : Prefixes) (h b : Bool) (c : Counts) : Type 0 where
@@ -194,7 +194,7 @@ module _ (l : Lent) (x : Used) (f : Prefixes) (h b : Bool) (c : Counts) (ps : x.
     network_is : network_fits (network_of l c) ≡ pick (all entry_fits used) (pick h b false) false
     network_is =
         let k = few_counts c small in
-        network_fits used (take c.has_routes l.routes) (take c.border_routers l.borders)
+        network_fits_lem used (take c.has_routes l.routes) (take c.border_routers l.borders)
         (routes ∙ sym (length-take-le c.has_routes l.routes rl)) (borders ∙ sym (length-take-le c.border_routers l.borders bl)) (omega arith) (omega arith)
         ∙ rw (← his, ← bis)
 
@@ -275,5 +275,5 @@ module _ (l : Lent) (x : Used) (f : Prefixes) (h b : Bool) (c : Counts) (ps : x.
         borders_fit = m.1;
       }
 
-  pub tables_by : pick (tables_agree l c) (network_fits (network_of l c)) false ≡ tables_by x f h b c
-  tables_by = same_test (pick (tables_agree l c) (network_fits (network_of l c)) false) (tables_by x f h b c) tables_back tables_true
+  pub tables_by_lem : pick (tables_agree l c) (network_fits (network_of l c)) false ≡ tables_by x f h b c
+  tables_by_lem = same_test (pick (tables_agree l c) (network_fits (network_of l c)) false) (tables_by x f h b c) tables_back tables_true

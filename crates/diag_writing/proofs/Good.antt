@@ -30,7 +30,7 @@ use Rattle.writing_walks.specs.declared.Lists.{Lists}
 use Rattle.writing_walks.specs.declared.Used.{Used}
 use Rattle.diag_writing.proofs.Both.{both_true, true_both, same_test, Near, near_same}
 use Rattle.diag_writing.proofs.Folds.{take_least, fold_flag, lists_size, listing}
-use Rattle.diag_writing.proofs.Agreed.{addresses_by, eui64_by, route_by, children_by, lists_by, tables_by}
+use Rattle.diag_writing.proofs.Agreed.{addresses_by, eui64_by, route_by_lem, children_by_lem, lists_by_lem, tables_by_lem}
 
 -- ---- parts
 pub record Insides (r : NetDiagData) (n : ℕ) : Type 0 where
@@ -93,17 +93,17 @@ module _ (r : NetDiagData) (l : Lent) (t : Route64) (x : Used) (f : Prefixes) (h
   unfolding used_of
   children_lent = ap (λ (y : Used). y.children_lent) s.used
 
-  pub lists_lent : x.lists_lent ≡ length l.lists
+  pub lists_lent_lem : x.lists_lent ≡ length l.lists
   unfolding used_of
-  lists_lent = ap (λ (y : Used). y.lists_lent) s.used
+  lists_lent_lem = ap (λ (y : Used). y.lists_lent) s.used
 
   pub prefixes_used : x.prefixes ≡ least (counts_in r.network_data).prefixes (length l.prefixes)
   unfolding used_of
   prefixes_used = ap (λ (y : Used). y.prefixes) s.used
 
-  pub children_used : x.children ≡ children_used (opt_part r.child_table) (length l.children)
+  pub children_used_lem : x.children ≡ children_used (opt_part r.child_table) (length l.children)
   unfolding used_of
-  children_used = ap (λ (y : Used). y.children) s.used
+  children_used_lem = ap (λ (y : Used). y.children) s.used
 
   pub lists_used : x.lists ≡ least r.child_ipv6_addresses (length l.lists)
   unfolding used_of
@@ -129,11 +129,11 @@ module _ (r : NetDiagData) (l : Lent) (t : Route64) (x : Used) (f : Prefixes) (h
       let u = ap (λ (y : Used). y.borders) s.used in
       s.borders ∙ rw (a, u, take_least (counts_in r.network_data).border_routers l.borders) (fold_flag border_fits true (take (counts_in r.network_data).border_routers l.borders))
 
-  pub children_are : c ≡ all child_fits (take (children_used (opt_part r.child_table) (length l.children)) l.children)
+  pub children_are_lem : c ≡ all child_fits (take (children_used (opt_part r.child_table) (length l.children)) l.children)
   unfolding used_of
-  children_are =
+  children_are_lem =
       let a = ap (λ (y : Used). y.fits) s.used in
-      s.children ∙ rw (a, children_used) (fold_flag child_fits true (take (children_used (opt_part r.child_table) (length l.children)) l.children))
+      s.children ∙ rw (a, children_used_lem) (fold_flag child_fits true (take (children_used (opt_part r.child_table) (length l.children)) l.children))
 
   pub record Listed : Type 0 where
     pub short : ls.short ≡ all short_list (lists_of r l)
@@ -188,7 +188,7 @@ module _ (r : NetDiagData) (l : Lent) (t : Route64) (x : Used) (f : Prefixes) (h
         inside = rw bytes_are at i.0;
         whole = j.0;
         eight = k.0;
-        lists_lent = rw lists_lent at m.0;
+        lists_lent = rw lists_lent_lem at m.0;
         lists_fit = sym listed.fits ∙ m.1;
         connectivity = o.0;
         route = rw s.route64 at o.1;
@@ -199,13 +199,13 @@ module _ (r : NetDiagData) (l : Lent) (t : Route64) (x : Used) (f : Prefixes) (h
   good_back : Good → fits_by r t x f h b c ls ≡ true
   unfolding fits_by bytes_by links_by lists_by passes tables_by children_by
   good_back g =
-      rw (bytes_are, g.inside, g.whole, g.eight, lists_lent, g.lists_lent, listed.fits, g.lists_fit, g.connectivity, s.route64, g.route, g.tables, g.children)
+      rw (bytes_are, g.inside, g.whole, g.eight, lists_lent_lem, g.lists_lent, listed.fits, g.lists_fit, g.connectivity, s.route64, g.route, g.tables, g.children)
 
   tables_all : (y : OptNetworkData) → f ≡ fold passed_prefix no_prefixes (take (counts_in y).prefixes l.prefixes) → h ≡ all route_fits (take (counts_in y).has_routes l.routes)
       → b ≡ all border_fits (take (counts_in y).border_routers l.borders) → passes counts_fit (opt_counts y) ≡ true
       → pick (passes (tables_agree l) (opt_counts y)) (passes network_fits (on_given (network_of l) (opt_counts y))) false ≡ passes (tables_by x f h b) (opt_counts y)
   unfolding passes counts_in
-  tables_all (n.Some z) fis his bis small = tables_by l x f h b z.counts prefixes_lent routes_lent borders_lent small fis his bis
+  tables_all (n.Some z) fis his bis small = tables_by_lem l x f h b z.counts prefixes_lent routes_lent borders_lent small fis his bis
   tables_all n.None fis his bis small = refl
 
   module _ (small : passes counts_fit (opt_counts r.network_data) ≡ true) where
@@ -215,7 +215,7 @@ module _ (r : NetDiagData) (l : Lent) (t : Route64) (x : Used) (f : Prefixes) (h
 
     children_is : pick (passes (children_agree l.children) (opt_part r.child_table)) (passes (all child_fits) (on_given (children_of l.children) (opt_part r.child_table))) false
         ≡ passes (children_by x c) (opt_part r.child_table)
-    children_is = children_by l.children x c (opt_part r.child_table) children_lent children_are
+    children_is = children_by_lem l.children x c (opt_part r.child_table) children_lent children_are_lem
 
     -- what the definition asks, test by test
     pub record Asked : Type 0 where
@@ -233,10 +233,10 @@ module _ (r : NetDiagData) (l : Lent) (t : Route64) (x : Used) (f : Prefixes) (h
     pub asked : Good → Asked
     asked g =
         let i = insides r (length l.bytes) g.inside in
-        let a = both_true _ _ (route_by l.route64 (opt_part r.route64) ∙ g.route) in
+        let a = both_true _ _ (route_by_lem l.route64 (opt_part r.route64) ∙ g.route) in
         let d = both_true _ _ (tables_is ∙ g.tables) in
         let e = both_true _ _ (children_is ∙ g.children) in
-        let k = both_true _ _ (lists_by l.bytes (lists_of r l) ∙ g.lists_fit) in
+        let k = both_true _ _ (lists_by_lem l.bytes (lists_of r l) ∙ g.lists_fit) in
         record {
           counted = a.0;
           route = a.1;
@@ -279,9 +279,9 @@ module _ (r : NetDiagData) (l : Lent) (t : Route64) (x : Used) (f : Prefixes) (h
           whole = sym (addresses_by l.bytes (opt_part r.addresses) i.addresses) ∙ v4.0;
           eight = sym (eui64_by l.bytes (opt_part r.eui64) i.eui64) ∙ v6.0;
           lists_lent = a5.0;
-          lists_fit = sym (lists_by l.bytes (lists_of r l)) ∙ true_both _ _ a5.1 v6.1;
+          lists_fit = sym (lists_by_lem l.bytes (lists_of r l)) ∙ true_both _ _ a5.1 v6.1;
           connectivity = v1.0;
-          route = sym (route_by l.route64 (opt_part r.route64)) ∙ true_both _ _ a2.0 v2.0;
+          route = sym (route_by_lem l.route64 (opt_part r.route64)) ∙ true_both _ _ a2.0 v2.0;
           tables = sym tables_is ∙ true_both _ _ a3.0 v3.0;
           children = sym children_is ∙ true_both _ _ a4.0 v5.0;
         }

@@ -54,23 +54,23 @@ module _ (l : Lent) where
   abbrev prefixes_bytes : ℕ → List ℕ
   prefixes_bytes k = network_bytes (prefixes_of (take k l.prefixes) l.routes l.borders)
 
-  network_field : (x : OptNetworkData) (k size : ℕ) → Rows (opt_counts x) k → routes_asked (take k l.prefixes) ≡ (counts_in x).has_routes
+  network_field_lem : (x : OptNetworkData) (k size : ℕ) → Rows (opt_counts x) k → routes_asked (take k l.prefixes) ≡ (counts_in x).has_routes
       → borders_asked (take k l.prefixes) ≡ (counts_in x).border_routers → size ≡ length (prefixes_bytes k)
       → field_bytes 7 (on_given network_bytes (on_given (network_of l) (opt_counts x))) ≡ network_header x size ++ prefixes_bytes k
   unfolding network_header counts_in encode network_bytes prefixes_of joined
-  network_field (n.Some y) k size rows routes borders e =
+  network_field_lem (n.Some y) k size rows routes borders e =
       let used = used_rows (take k l.prefixes) l.routes l.borders y.counts.has_routes y.counts.border_routers (omega arith) (omega arith) in
       given_bytes 7 (network_bytes (network_of l y.counts)) ∙ rw (e, used, rows)
-  network_field n.None k size rows routes borders e = absent_bytes 7 ∙ rw rows
+  network_field_lem n.None k size rows routes borders e = absent_bytes 7 ∙ rw rows
 
-  child_field : (q : Answer Part) (k : ℕ) → Thirds q k → k ≤ length l.children
+  child_field_lem : (q : Answer Part) (k : ℕ) → Thirds q k → k ≤ length l.children
       → field_bytes 16 (on_given children_bytes (on_given (children_of l.children) q)) ≡ child_header q ++ joined child_bytes (take k l.children)
   unfolding child_header encode children_bytes joined
-  child_field (given q) k thirds lent =
+  child_field_lem (given q) k thirds lent =
       let size : length (children_bytes (take k l.children)) ≡ q.len = children_size (take k l.children) ∙ omega (arith, length-take-le k l.children lent, thirds.1) in
       given_bytes 16 (children_bytes (children_of l.children q)) ∙ rw (← thirds.0, size)
-  child_field absent k thirds lent = absent_bytes 16 ∙ rw thirds
-  child_field (refused n p i) k thirds lent = refused_bytes 16 n p i ∙ rw thirds
+  child_field_lem absent k thirds lent = absent_bytes 16 ∙ rw thirds
+  child_field_lem (refused n p i) k thirds lent = refused_bytes 16 n p i ∙ rw thirds
 
 list_entries : (s : List ℕ) (xs : List ChildIpv6AddrInfo) → encode_all (map list_content (map (list_of s) xs)) ≡ joined (list_entry s) xs
 unfolding encode_all joined
@@ -106,6 +106,6 @@ module _ (r : NetDiagData) (l : Lent) where
       ++ (between_bytes r l.bytes ++ (joined child_bytes (take p.children l.children) ++ (after_bytes r l.bytes ++ joined (list_entry l.bytes) (take p.lists l.lists)))))
       ≡ encode_all (entries_of (values_of r l))
   joining room p g =
-      let network = network_field l r.network_data p.prefixes p.network g.prefixes g.routes_are g.borders_are g.network in
-      let children = child_field l (opt_part r.child_table) p.children g.children g.children_lent in
+      let network = network_field_lem l r.network_data p.prefixes p.network g.prefixes g.routes_are g.borders_are g.network in
+      let children = child_field_lem l (opt_part r.child_table) p.children g.children g.children_lent in
       rw (g.lists, entries_are) (rw (network, children) (simp append_assoc))

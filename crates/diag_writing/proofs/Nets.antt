@@ -42,16 +42,16 @@ rows_none : (k : ℕ) → length (items_bytes []) ≡ rows_size 0 k
 unfolding rows_size joined
 rows_none k = refl
 
-rows_size : {A : Type 0} (m k : ℕ) (enc : A → List ℕ) → ((x : A) → length (enc x) ≡ k) → (xs : List A) → length (items_bytes (row_items m enc xs)) ≡ rows_size (length xs) (length xs * k)
+rows_size_lem : {A : Type 0} (m k : ℕ) (enc : A → List ℕ) → ((x : A) → length (enc x) ≡ k) → (xs : List A) → length (items_bytes (row_items m enc xs)) ≡ rows_size (length xs) (length xs * k)
 unfolding row_items
-rows_size m k enc size [] = rows_none (0 * k)
-rows_size m k enc size (x ∷ xs) =
+rows_size_lem m k enc size [] = rows_none (0 * k)
+rows_size_lem m k enc size (x ∷ xs) =
     item_size m (joined enc (x ∷ xs)) ∙ ap (λ (n : ℕ). 2 + n) (joined_length k enc size (x ∷ xs)) ∙ sym (rows_some (length xs) (length (x ∷ xs) * k))
 
-context_size : (x : OptContext) → length (items_bytes (context_items (context_of x))) ≡ context_size x
+context_size_lem : (x : OptContext) → length (items_bytes (context_items (context_of x))) ≡ context_size x
 unfolding context_items context_size joined
-context_size (o.Some c) = refl
-context_size o.None = refl
+context_size_lem (o.Some c) = refl
+context_size_lem o.None = refl
 
 route_three : (h : HasRouteEntry) → length (route_bytes h) ≡ 3
 unfolding route_bytes
@@ -74,26 +74,26 @@ module _ (e : PrefixEntry) (held : prefix_held e ≡ true) where
         let ts = row_items 4 border_bytes bs in
         let cs = context_items (context_of e.six_low_pan_context) in
         ap length (joined_append item_bytes rs (ts ++ cs)) ∙ length-append (items_bytes rs) (items_bytes (ts ++ cs))
-        ∙ rw (joined_append item_bytes ts cs, length-append (items_bytes ts) (items_bytes cs), rows_size 0 3 route_bytes route_three hs, rows_size 4 4 border_bytes border_four bs, context_size e.six_low_pan_context, h, b)
+        ∙ rw (joined_append item_bytes ts cs, length-append (items_bytes ts) (items_bytes cs), rows_size_lem 0 3 route_bytes route_three hs, rows_size_lem 4 4 border_bytes border_four bs, context_size_lem e.six_low_pan_context, h, b)
 
-    pub value_size : length (prefix_value (prefix_of e hs bs)) ≡ value_size e
+    pub value_size_lem : length (prefix_value (prefix_of e hs bs)) ≡ value_size e
     unfolding prefix_value
-    value_size =
+    value_size_lem =
         let a = length-append (take (bytes_for e.prefix_bit_length) e.prefix) (items_bytes (inner_items (prefix_of e hs bs))) in
         let p = prefix_bytes in
         let i = inner_size in
         omega arith
 
     -- it fits where its own tests pass and its rows fit
-    prefix_fits : prefix_fits (prefix_of e hs bs)
+    prefix_fits_lem : prefix_fits (prefix_of e hs bs)
         ≡ pick (context_fits (context_of e.six_low_pan_context)) (pick (all route_fits hs) (pick (all border_fits bs) (leb (value_size e) most_item) false) false) false
     unfolding prefix_fits
-    prefix_fits = rw (held, value_size)
+    prefix_fits_lem = rw (held, value_size_lem)
 
-entry_fits : (e : PrefixEntry) → prefix_held e ≡ true → e.has_routes ≤ most_has_routes → e.border_routers ≤ most_border_routers
+entry_fits_lem : (e : PrefixEntry) → prefix_held e ≡ true → e.has_routes ≤ most_has_routes → e.border_routers ≤ most_border_routers
     → entry_fits e ≡ pick (context_fits (context_of e.six_low_pan_context)) (leb (value_size e) most_item) false
 unfolding entry_fits
-entry_fits e k h b = rw (k, le-leb e.has_routes most_has_routes h, le-leb e.border_routers most_border_routers b)
+entry_fits_lem e k h b = rw (k, le-leb e.has_routes most_has_routes h, le-leb e.border_routers most_border_routers b)
 
 entry_held : (e : PrefixEntry) → entry_fits e ≡ true → prefix_held e ≡ true
 unfolding entry_fits
@@ -138,39 +138,39 @@ none_left f (x ∷ xs) e = absurd (omega arith)
 split_all : {A : Type 0} (f : A → Bool) (k : ℕ) (xs : List A) → all f xs ≡ pick (all f (take k xs)) (all f (drop k xs)) false
 split_all f k xs = ap (all f) (sym (take-append-drop k xs)) ∙ all_append f (take k xs) (drop k xs)
 
-pub network_fits : (es : List PrefixEntry) (hs : List HasRouteEntry) (bs : List BorderRouterEntry) → routes_asked es ≡ length hs → borders_asked es ≡ length bs
+pub network_fits_lem : (es : List PrefixEntry) (hs : List HasRouteEntry) (bs : List BorderRouterEntry) → routes_asked es ≡ length hs → borders_asked es ≡ length bs
     → routes_asked es ≤ most_has_routes → borders_asked es ≤ most_border_routers
     → network_fits (prefixes_of es hs bs) ≡ pick (all entry_fits es) (pick (all route_fits hs) (all border_fits bs) false) false
 unfolding network_fits prefixes_of routes_asked borders_asked all
-network_fits [] hs bs h b m n = rw (← none_left route_fits hs h, ← none_left border_fits bs b)
-network_fits (e ∷ es) hs bs h b m n =
+network_fits_lem [] hs bs h b m n = rw (← none_left route_fits hs h, ← none_left border_fits bs b)
+network_fits_lem (e ∷ es) hs bs h b m n =
     let k = e.has_routes in
     let j = e.border_routers in
     let dh = length-drop k hs in
     let db = length-drop j bs in
-    let rest = network_fits es (drop k hs) (drop j bs) (omega arith) (omega arith) (omega arith) (omega arith) in
+    let rest = network_fits_lem es (drop k hs) (drop j bs) (omega arith) (omega arith) (omega arith) (omega arith) in
     by_test (prefix_held e)
     (λ held.
-    let one = prefix_fits e held (take k hs) (take j bs) (length-take-le k hs (omega arith)) (length-take-le j bs (omega arith)) in
+    let one = prefix_fits_lem e held (take k hs) (take j bs) (length-take-le k hs (omega arith)) (length-take-le j bs (omega arith)) in
     ap (λ (x : Bool). pick x (network_fits (prefixes_of es (drop k hs) (drop j bs))) false) one
     ∙ ap (λ (x : Bool). pick (pick (context_fits (context_of e.six_low_pan_context)) (pick (all route_fits (take k hs)) (pick (all border_fits (take j bs)) (leb (value_size e) most_item) false) false) false) x false) rest
     ∙ regroup (context_fits (context_of e.six_low_pan_context)) (leb (value_size e) most_item) (all route_fits (take k hs)) (all route_fits (drop k hs)) (all border_fits (take j bs)) (all border_fits (drop j bs)) (all entry_fits es)
-    ∙ rw (← split_all route_fits k hs, ← split_all border_fits j bs, ← entry_fits e held (omega arith) (omega arith)))
+    ∙ rw (← split_all route_fits k hs, ← split_all border_fits j bs, ← entry_fits_lem e held (omega arith) (omega arith)))
     (λ not.
     ap (λ (x : Bool). pick x (network_fits (prefixes_of es (drop k hs) (drop j bs))) false) (prefix_not e not (take k hs) (take j bs))
     ∙ ap (λ (x : Bool). pick (pick x (all entry_fits es) false) (pick (all route_fits hs) (all border_fits bs) false) false) (sym (entry_not e not)))
 
-pub network_size : (es : List PrefixEntry) (hs : List HasRouteEntry) (bs : List BorderRouterEntry) → all entry_fits es ≡ true → routes_asked es ≤ length hs → borders_asked es ≤ length bs
+pub network_size_lem : (es : List PrefixEntry) (hs : List HasRouteEntry) (bs : List BorderRouterEntry) → all entry_fits es ≡ true → routes_asked es ≤ length hs → borders_asked es ≤ length bs
     → length (network_bytes (prefixes_of es hs bs)) ≡ prefixes_size es
 unfolding network_bytes prefixes_of routes_asked borders_asked prefixes_size joined all
-network_size [] hs bs w h b = refl
-network_size (e ∷ es) hs bs w h b =
+network_size_lem [] hs bs w h b = refl
+network_size_lem (e ∷ es) hs bs w h b =
     let k = e.has_routes in
     let j = e.border_routers in
     let dh = length-drop k hs in
     let db = length-drop j bs in
     let p = both_true (entry_fits e) (all entry_fits es) w in
-    let v = value_size e (entry_held e p.0) (take k hs) (take j bs) (length-take-le k hs (omega arith)) (length-take-le j bs (omega arith)) in
-    let rest = network_size es (drop k hs) (drop j bs) p.1 (omega arith) (omega arith) in
+    let v = value_size_lem e (entry_held e p.0) (take k hs) (take j bs) (length-take-le k hs (omega arith)) (length-take-le j bs (omega arith)) in
+    let rest = network_size_lem es (drop k hs) (drop j bs) p.1 (omega arith) (omega arith) in
     let a = length-append (prefix_value (prefix_of e (take k hs) (take j bs))) (items_bytes (map prefix_item (prefixes_of es (drop k hs) (drop j bs)))) in
     omega arith

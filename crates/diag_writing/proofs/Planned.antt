@@ -48,7 +48,7 @@ use Rattle.writing_walks.specs.declared.Used.{Used}
 use Rattle.writing_walks.specs.declared.Plan.{Plan}
 use Rattle.diag_writing.proofs.Both.{contra, both_true, Near, near_same, near_back, near_over}
 use Rattle.diag_writing.proofs.Folds.{least_is, prefixes_size, lists_size}
-use Rattle.diag_writing.proofs.Nets.{network_size}
+use Rattle.diag_writing.proofs.Nets.{network_size_lem}
 use Rattle.diag_writing.proofs.Agreed.{few_counts, found}
 use Rattle.diag_writing.proofs.Sized.{field_size, Sixty, Sound, whole_size, whole_count}
 use Rattle.diag_writing.proofs.Good as g
@@ -118,7 +118,7 @@ module _ (l : Lent) (x : Used) (f : Prefixes) (h b : Bool) (ps : x.prefixes_lent
         borders_few = k.borders;
         fit = t.fit;
         near = t.size;
-        field = ap size_of (network_size used rs ts t.fit (omega (arith, t.routes)) (omega (arith, t.borders)));
+        field = ap size_of (network_size_lem used rs ts t.fit (omega (arith, t.routes)) (omega (arith, t.borders)));
         bound = let w = size_bound (prefixes_size used) in omega arith;
       }
   net n.None fis his bis small ok =
@@ -144,11 +144,11 @@ lies s (given q) h k = (leb-true (q.start + q.len) (length s) h, leb-true q.len 
 lies s absent h k = tt
 lies s (refused m p i) h k = tt
 
-short_part : (a : Answer Part) → passes short_part a ≡ true → Short a
+short_part_lem : (a : Answer Part) → passes short_part a ≡ true → Short a
 unfolding passes
-short_part (given q) k = leb-true q.len most_value k
-short_part absent k = tt
-short_part (refused m p i) k = tt
+short_part_lem (given q) k = leb-true q.len most_value k
+short_part_lem absent k = tt
+short_part_lem (refused m p i) k = tt
 
 eight_short : (a : Answer Part) → passes eight_by a ≡ true → passes short_part a ≡ true
 unfolding passes
@@ -330,7 +330,7 @@ module _ (r : NetDiagData) (l : Lent) (t : Route64) (x : Used) (f : Prefixes) (h
             let used = take (counts_in r.network_data).prefixes l.prefixes in
             let short : prefixes_size used ≤ most_bytes = omega (arith, total, size_is, network.bound) in
             let size = network.near.small short in
-            let ns = network_size used l.routes l.borders network.fit (omega (arith, network.routes, network.routes_lent)) (omega (arith, network.borders, network.borders_lent)) in
+            let ns = network_size_lem used l.routes l.borders network.fit (omega (arith, network.routes, network.routes_lent)) (omega (arith, network.borders, network.borders_lent)) in
             record {
               bytes = gives;
               fits = omega (arith, total);
@@ -341,7 +341,7 @@ module _ (r : NetDiagData) (l : Lent) (t : Route64) (x : Used) (f : Prefixes) (h
                 channel_pages = lies l.bytes (opt_part r.channel_pages) i.channel_pages shorts.channel_pages;
                 type_list = lies l.bytes (opt_part r.type_list) i.type_list shorts.type_list;
                 eui64 = lies l.bytes (opt_part r.eui64) i.eui64 (eight_short (opt_part r.eui64) good.eight);
-                children = short_part (opt_part r.child_table) shorts.child_table;
+                children = short_part_lem (opt_part r.child_table) shorts.child_table;
               };
               counted = counted l.route64 (opt_part r.route64) sixty_lent asked.counted;
               prefixes = rw pn network.rows;

@@ -142,9 +142,9 @@ module _ {A : Type 0} (m k : ℕ) (enc : A → List ℕ) (size : (x : A) → len
     rows_count : length (joined enc (take n (drop from xs))) ≡ n * k
     rows_count = joined_length k enc size (take n (drop from xs)) ∙ ap (λ (j : ℕ). j * k) part_length
 
-    rows_size : rows_size n (n * k) ≡ length (items_bytes (row_items m enc (take n (drop from xs))))
+    rows_size_lem : rows_size n (n * k) ≡ length (items_bytes (row_items m enc (take n (drop from xs))))
     unfolding rows_size
-    rows_size =
+    rows_size_lem =
         by_test (eqb n 0)
         (λ t. rw t (none_size (eqb-true n 0 t) (ap length (none_are (eqb-true n 0 t)) ∙ rows_count)))
         (λ t. rw t (omega (arith, ap length (some_are (pos_of n (eqb-false n 0 t))), rows_count)))
@@ -152,10 +152,10 @@ module _ {A : Type 0} (m k : ℕ) (enc : A → List ℕ) (size : (x : A) → len
         none_size : {j : ℕ} → n ≡ 0 → j ≡ n * k → 0 ≡ j
         none_size z e = sym (e ∙ ap (λ (i : ℕ). i * k) z ∙ omega arith)
 
-context_size : (x : OptContext) → context_size x ≡ length (items_bytes (context_items (context_of x)))
+context_size_lem : (x : OptContext) → context_size x ≡ length (items_bytes (context_items (context_of x)))
 unfolding context_size context_items joined
-context_size (o.Some c) = refl
-context_size o.None = refl
+context_size_lem (o.Some c) = refl
+context_size_lem o.None = refl
 
 -- ---- the inner TLVs of a prefix, one kind after the other
 module _ (p : Prefix) where
@@ -199,9 +199,9 @@ module _ (e : PrefixEntry) (hs : List HasRouteEntry) (h : ℕ) (bs : List Border
 
   pub value_is : value_size e ≡ length (prefix_value (prefix_from e hs h bs b))
   value_is =
-      let r = rows_size 0 3 route_bytes route_size hs h e.has_routes within in
-      let s = rows_size 4 4 border_bytes border_size bs b e.border_routers also in
-      let c = context_size e.six_low_pan_context in
+      let r = rows_size_lem 0 3 route_bytes route_size hs h e.has_routes within in
+      let s = rows_size_lem 4 4 border_bytes border_size bs b e.border_routers also in
+      let c = context_size_lem e.six_low_pan_context in
       let v = value_length (prefix_from e hs h bs b) in
       omega arith
 

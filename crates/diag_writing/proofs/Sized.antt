@@ -53,18 +53,18 @@ unfoldable count_of : List Field → ℕ
 count_of [] = 0
 count_of (f ∷ fs) = one f.value + count_of fs
 
-entry_size : (ty : ℕ) (a : Answer (List ℕ)) → length (encode_all (entry_for ty a)) ≡ field_size a
+entry_size_lem : (ty : ℕ) (a : Answer (List ℕ)) → length (encode_all (entry_for ty a)) ≡ field_size a
 unfolding entry_for field_size encode_all
-entry_size ty (given v) = length-append (encode ty v) [] ∙ omega (arith, length_encode ty v)
-entry_size ty absent = refl
-entry_size ty (refused n p i) = refl
+entry_size_lem ty (given v) = length-append (encode ty v) [] ∙ omega (arith, length_encode ty v)
+entry_size_lem ty absent = refl
+entry_size_lem ty (refused n p i) = refl
 
 fields_size : (fs : List Field) → length (encode_all (present fs)) ≡ sizes_of fs
 unfolding present sizes_of encode_all
 fields_size [] = refl
 fields_size (f ∷ fs) =
     ap length (encode_append (entry_for f.ty f.value) (present fs)) ∙ length-append (encode_all (entry_for f.ty f.value)) (encode_all (present fs))
-    ∙ omega (arith, entry_size f.ty f.value, fields_size fs)
+    ∙ omega (arith, entry_size_lem f.ty f.value, fields_size fs)
 
 entry_count : (ty : ℕ) (a : Answer (List ℕ)) → length (entry_for ty a) ≡ one a
 unfolding entry_for one
@@ -95,11 +95,11 @@ size_entry : (n : ℕ) → n ≤ most_value → size_of n ≡ entry_size n
 unfolding entry_size
 size_entry n h = rw (le-leb n most_value h)
 
-part_size : (s : List ℕ) (a : Answer Part) → passes (inside_by (length s)) a ≡ true → passes short_part a ≡ true → field_size (on_given (part_bytes s) a) ≡ part_size a
+part_size_lem : (s : List ℕ) (a : Answer Part) → passes (inside_by (length s)) a ≡ true → passes short_part a ≡ true → field_size (on_given (part_bytes s) a) ≡ part_size a
 unfolding passes field_size part_size
-part_size s (given q) h k = ap size_of (part_length s q h) ∙ size_entry q.len (leb-true q.len most_value k)
-part_size s absent h k = refl
-part_size s (refused n p i) h k = refl
+part_size_lem s (given q) h k = ap size_of (part_length s q h) ∙ size_entry q.len (leb-true q.len most_value k)
+part_size_lem s absent h k = refl
+part_size_lem s (refused n p i) h k = refl
 
 late_short : (b d : Answer ℕ) → length (late_bytes b d) ≤ 3
 unfolding late_bytes bytes_of
@@ -109,11 +109,11 @@ late_short (given b) (refused n p i) = omega arith
 late_short absent d = omega arith
 late_short (refused n p i) d = omega arith
 
-connectivity_size : (a : Answer ConnectivityValue) → field_size (on_given connectivity_bytes a) ≡ connectivity_size a
+connectivity_size_lem : (a : Answer ConnectivityValue) → field_size (on_given connectivity_bytes a) ≡ connectivity_size a
 unfolding field_size connectivity_size connectivity_bytes
-connectivity_size (given c) = size_entry (length (connectivity_bytes c)) (let h = late_short c.buffer_size c.datagram_count in omega arith)
-connectivity_size absent = refl
-connectivity_size (refused n p i) = refl
+connectivity_size_lem (given c) = size_entry (length (connectivity_bytes c)) (let h = late_short c.buffer_size c.datagram_count in omega arith)
+connectivity_size_lem absent = refl
+connectivity_size_lem (refused n p i) = refl
 
 -- a mask of 8 bytes, and 64 places for routes
 abbrev pub Sixty : Route64 → Type 0
@@ -127,14 +127,14 @@ route_length t w h =
     let k = length-take-le t.count t.route_data (omega (arith, w.1)) in
     omega (arith, w.0)
 
-route_size : (t : Route64) (a : Answer Part) → Sixty t → passes (λ (q : Part). routes_counted t) a ≡ true
+route_size_lem : (t : Route64) (a : Answer Part) → Sixty t → passes (λ (q : Part). routes_counted t) a ≡ true
     → field_size (on_given route64_bytes (on_given (λ (q : Part). route_used t) a)) ≡ route_size a t
 unfolding passes field_size route_size
-route_size t (given q) w h =
+route_size_lem t (given q) w h =
     let k : t.count ≤ 64 = omega (arith, leb-true t.count (length t.route_data) h, w.1) in
     rw (le-leb t.count 64 k) (ap size_of (route_length t w k) ∙ size_entry (9 + t.count) (omega arith))
-route_size t absent w h = refl
-route_size t (refused n p i) w h = refl
+route_size_lem t absent w h = refl
+route_size_lem t (refused n p i) w h = refl
 
 children_size : (cs : List ChildTableEntry) (a : Answer Part) → passes (children_agree cs) a ≡ true → passes short_part a ≡ true
     → field_size (on_given children_bytes (on_given (children_of cs) a)) ≡ part_size a
@@ -149,16 +149,16 @@ list_length : (v : ListValue) → length (list_bytes v) ≡ 2 + length v.address
 unfolding list_bytes bytes_of
 list_length v = omega arith
 
-lists_size : (s : List ℕ) (xs : List ChildIpv6AddrInfo) → Every (ListLies s) xs → length (encode_all (map list_content (map (list_of s) xs))) ≡ lists_size xs
+lists_size_lem : (s : List ℕ) (xs : List ChildIpv6AddrInfo) → Every (ListLies s) xs → length (encode_all (map list_content (map (list_of s) xs))) ≡ lists_size xs
 unfolding encode_all lists_size
-lists_size s [] h = refl
-lists_size s (x ∷ xs) h =
+lists_size_lem s [] h = refl
+lists_size_lem s (x ∷ xs) h =
     let v = list_bytes (list_of s x) in
     let p = list_length (list_of s x) in
     let q = length_part s x.start x.len h.0.0 in
     let e : length v ≡ 2 + x.len = omega arith in
     length-append (encode 30 v) (encode_all (map list_content (map (list_of s) xs)))
-    ∙ omega (arith, length_encode 30 v ∙ ap size_of e ∙ size_entry (2 + x.len) h.0.1, lists_size s xs h.1)
+    ∙ omega (arith, length_encode 30 v ∙ ap size_of e ∙ size_entry (2 + x.len) h.0.1, lists_size_lem s xs h.1)
 
 -- ---- all of them
 
@@ -194,21 +194,21 @@ module _ (r : NetDiagData) (l : Lent) (k : Sound r l) (sixty : Sixty l.route64) 
   fixed_fields : sizes_of (fields (values_of r l)) ≡ fixed_size r l.route64 + field_size (network_field r l)
   unfolding sizes_of values_of fixed_size numbers_size parts_size size_of
   fixed_fields =
-      let e0 = part_size l.bytes (opt_part r.ext_mac_addr) k.ext_mac_addr k.ext_mac_addr_short in
+      let e0 = part_size_lem l.bytes (opt_part r.ext_mac_addr) k.ext_mac_addr k.ext_mac_addr_short in
       let e1 = number_size (bytes_of 2) 2 4 two_long refl (opt_answer16 r.mac_addr) in
       let e2 = number_size mode_bytes 1 3 (λ x. refl) refl (opt_mode r.mode) in
       let e3 = number_size (bytes_of 4) 4 6 four_long refl (opt_answer32 r.timeout) in
-      let e4 = connectivity_size (opt_connectivity r.connectivity) in
-      let e5 = route_size l.route64 (opt_part r.route64) sixty k.counted in
+      let e4 = connectivity_size_lem (opt_connectivity r.connectivity) in
+      let e5 = route_size_lem l.route64 (opt_part r.route64) sixty k.counted in
       let e6 = number_size leader_bytes 8 10 back.leader_size refl (opt_leader_data r.leader_data) in
-      let e8 = part_size l.bytes (opt_part r.addresses) k.addresses k.addresses_short in
+      let e8 = part_size_lem l.bytes (opt_part r.addresses) k.addresses k.addresses_short in
       let e9 = number_size counters_bytes 36 38 back.counters_size refl (opt_mac_counters r.mac_counters) in
       let e14 = number_size one_byte 1 3 (λ x. refl) refl (opt_answer8 r.battery_level) in
       let e15 = number_size (bytes_of 2) 2 4 two_long refl (opt_answer16 r.supply_voltage) in
       let e16 = children_size l.children (opt_part r.child_table) k.children k.child_table_short in
-      let e17 = part_size l.bytes (opt_part r.channel_pages) k.channel_pages k.channel_pages_short in
-      let e18 = part_size l.bytes (opt_part r.type_list) k.type_list k.type_list_short in
-      let e23 = part_size l.bytes (opt_part r.eui64) k.eui64 k.eui64_short in
+      let e17 = part_size_lem l.bytes (opt_part r.channel_pages) k.channel_pages k.channel_pages_short in
+      let e18 = part_size_lem l.bytes (opt_part r.type_list) k.type_list k.type_list_short in
+      let e23 = part_size_lem l.bytes (opt_part r.eui64) k.eui64 k.eui64_short in
       rw (e0, e1, e2, e3, e4, e5, e6, e8, e9, e14, e15, e16, e17, e18, e23) (omega arith)
 
   pub whole_size : length (encode_all (entries_of (values_of r l))) ≡ fixed_size r l.route64 + (field_size (network_field r l) + lists_size (lists_of r l))
@@ -216,12 +216,12 @@ module _ (r : NetDiagData) (l : Lent) (k : Sound r l) (sixty : Sixty l.route64) 
   whole_size =
       let ls = map list_content (map (list_of l.bytes) (lists_of r l)) in
       ap length (encode_append (present (fields (values_of r l))) ls) ∙ length-append (encode_all (present (fields (values_of r l)))) (encode_all ls)
-      ∙ omega (arith, fields_size (fields (values_of r l)), fixed_fields, lists_size l.bytes (lists_of r l) k.lists)
+      ∙ omega (arith, fields_size (fields (values_of r l)), fixed_fields, lists_size_lem l.bytes (lists_of r l) k.lists)
 
 module _ (r : NetDiagData) (l : Lent) where
-  fixed_count : count_of (fields (values_of r l)) ≡ fixed_count r
+  fixed_count_lem : count_of (fields (values_of r l)) ≡ fixed_count r
   unfolding count_of values_of fixed_count numbers_count parts_count
-  fixed_count =
+  fixed_count_lem =
       let e0 = one_on (part_bytes l.bytes) (opt_part r.ext_mac_addr) in
       let e1 = one_on (bytes_of 2) (opt_answer16 r.mac_addr) in
       let e2 = one_on mode_bytes (opt_mode r.mode) in
@@ -247,4 +247,4 @@ module _ (r : NetDiagData) (l : Lent) where
       let a = length-append (present (fields (values_of r l))) (map list_content ms) in
       let b = length-map ms list_content in
       let c = length-map (lists_of r l) (list_of l.bytes) in
-      omega (arith, fields_count (fields (values_of r l)), fixed_count)
+      omega (arith, fields_count (fields (values_of r l)), fixed_count_lem)

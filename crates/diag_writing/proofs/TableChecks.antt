@@ -23,9 +23,9 @@ use Rattle.writing_plans.proofs.Tested.{no_entry}
 use Rattle.diag_writing.proofs.Both.{both_true}
 
 -- a prefix that passed
-pub entry_fits : (e : PrefixEntry) → entry_fits e ≡ true → (e.has_routes ≤ 96) × (e.border_routers ≤ 96) × (value_size e ≤ 255)
+pub entry_fits_lem : (e : PrefixEntry) → entry_fits e ≡ true → (e.has_routes ≤ 96) × (e.border_routers ≤ 96) × (value_size e ≤ 255)
 unfolding entry_fits
-entry_fits e h =
+entry_fits_lem e h =
     by (leb e.has_routes 96) (leb e.border_routers 96) (context_fits (context_of e.six_low_pan_context)) (leb (value_size e) 255) (both_true (prefix_held e) _ h).1
     (λ x y z. (leb-true _ _ x, leb-true _ _ y, leb-true _ _ z))
   where

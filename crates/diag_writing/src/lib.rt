@@ -1,4 +1,6 @@
 // The writer: a payload from a diagnostic record and its tables (document 02, One). Reading what it writes gives the record back.
+#![tactic(auto)]
+
 mod checks;
 mod fields;
 mod linked;

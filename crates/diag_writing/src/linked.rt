@@ -8,7 +8,7 @@ use connectivity::Connectivity;
 use diag_values::{OptU8, OptU16};
 
 // The first len of its bytes.
-#[derive(Drop)]
+#[derive(Clone, Copy)]
 pub(crate) struct ConnectivityBytes {
     pub(crate) bytes: [u8; 10],
     pub(crate) len: usize,

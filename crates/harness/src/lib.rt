@@ -2,6 +2,8 @@
 //
 // `lines` reads and writes, `requests` reads a line's words, `calls` looks for the module that knows the call, and the modules `..._texts` make the
 // call and put what it answers, with the pieces of `texts`. docs/USERS.md has an example of each request.
+#![tactic(auto)]
+
 mod built_texts;
 mod calls;
 mod dataset_texts;

@@ -45,9 +45,9 @@ fn put_lines(s: &[u8], arena: &mut Room, out: &mut Lent, text: &mut Room) {
 
 // Reads once behind the first `kept` bytes of input. How many bytes are there now: as many as before at the end of the input.
 fn read_more(input: &mut [u8], kept: usize) -> usize
-    requires* { do ⌜ kept ≤ (← ⟦input.len()⟧) ⌝ }
+    requires { kept ≤ length input.old }
     ensures lower_bound { kept ≤ result }
-    ensures* result_bound { do ⌜ result ≤ (← (⟦input.len()⟧).entry) ⌝ }
+    ensures result_bound { result ≤ length input.old }
 {
     let got = libc::read(libc::STDIN_FILENO, &mut input[kept..]);
     kept + io::count(got, &input[kept..])
@@ -74,7 +74,7 @@ fn whole_lines(s: &[u8], kept: usize) -> usize
 // so that it is answered once, as one bad request. How many they are.
 fn to_front(s: &mut [u8], start: usize, end: usize) -> usize
     requires start_le_end { start ≤ end }
-    requires* end_bound { do ⌜ end ≤ (← ⟦s.len()⟧) ⌝ }
+    requires end_bound { end ≤ length s.old }
 {
     let n = least(LONGEST_LINE + 1, end - start);
     let mut i: usize = 0;
@@ -93,7 +93,7 @@ fn take_turn(
     out: &mut Lent,
     text: &mut Room,
 ) -> usize
-    requires* { do ⌜ kept ≤ (← ⟦input.len()⟧) ⌝ }
+    requires { kept ≤ length input.old }
 {
     let end = read_more(input, kept);
     let whole = whole_lines(&input[0..end], kept);

@@ -12,7 +12,7 @@ use network_bridge::{Decoded, PLACES, Tables};
 use network_data::{Checked, Counts};
 use rows::{put_read_border_router, put_read_has_route, put_read_prefix};
 
-#[derive(Drop)]
+#[derive(Clone, Copy)]
 pub(crate) enum Table {
     Prefixes,
     HasRoutes,

@@ -29,7 +29,7 @@ pub(crate) const BIT: u8 = 32;
 const VERSION: u8 = 64;
 
 // A word's kind, the place where it stops in the line, the part of the arena that has its bytes, and its number.
-#[derive(Drop)]
+#[derive(Clone, Copy)]
 struct Value {
     kind: u8,
     stop: usize,
@@ -39,14 +39,14 @@ struct Value {
 }
 
 // A part of a line, from a place up to another.
-#[derive(Drop)]
+#[derive(Clone, Copy)]
 pub(crate) struct Span {
     pub(crate) start: usize,
     pub(crate) end: usize,
 }
 
 // The values of the words by their number, the name's being 0, and the last word's number: for a call that is lent an output, its size.
-#[derive(Drop)]
+#[derive(Clone, Copy)]
 pub(crate) struct Values {
     pub(crate) cap: u64,
     values: [Value; MOST_VALUES],
@@ -108,7 +108,7 @@ pub(crate) fn put_bytes(word: &[u8], arena: &mut Room, start: usize) -> usize {
 }
 
 // The number that a word spells, to 2^64 - 1, and its kind: 0 if it spells none.
-#[derive(Drop)]
+#[derive(Clone, Copy)]
 pub(crate) struct Number {
     pub(crate) kind: u8,
     pub(crate) value: u64,

@@ -14,7 +14,7 @@ use requested::{NO_TYPE, named_type};
 use route64::Route64;
 
 // What the rows are of: a bare value, for Lists a payload.
-#[derive(Drop)]
+#[derive(Clone, Copy)]
 pub(crate) enum Rows {
     Routes,
     Children,

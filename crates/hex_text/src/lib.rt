@@ -1,4 +1,6 @@
 // Base 16 (RFC 4648, section 8): bytes to hex text. Hex text to bytes is in `base16`.
+#![tactic(auto)]
+
 ghost use Rattle.std.specs.Prelude.{◌≡◌, ◌*◌, ◌≤◌, ◌<◌, length};
 ghost use Rattle.refusal.specs.Answer.{given};
 ghost use Rattle.refusal.specs.Output.{output, emit, put, written_answer};

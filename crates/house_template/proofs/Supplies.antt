@@ -75,13 +75,13 @@ module _ (d t : List ℕ) where
 
   -- THE THEOREM: the value that is handed back is the part that the call beside it names, or no bytes where that names none
   module _ (ty : ℕ) where
-    pub part_named : Within (supplied_spot ty d t) × (supplied_value ty d t ≡ part_named (supplied_spot ty d t))
+    pub part_named_lem : Within (supplied_spot ty d t) × (supplied_value ty d t ≡ part_named (supplied_spot ty d t))
     unfolding supplied_spot supplied_value supplied
-    part_named = named_by (last_entry ty 0 d) (last_entry ty 1 t) (entry_lies d ty 0) (entry_lies t ty 1)
+    part_named_lem = named_by (last_entry ty 0 d) (last_entry ty 1 t) (entry_lies d ty 0) (entry_lies t ty 1)
 
     -- for a caller that has the answer
     pub answer_named : (x : Answer (Supply Spot)) → x ≡ supplied_spot ty d t → Within x × (supplied_value ty d t ≡ part_named x)
-    answer_named x e = subst (Named (supplied_value ty d t)) (sym e) part_named
+    answer_named x e = subst (Named (supplied_value ty d t)) (sym e) part_named_lem
 
     -- the arm in which neither supplies it
     pub no_part : (r : Supplied) → supplied_answer r ≡ supplied_spot ty d t → OneOf (2 ∷ 3 ∷ []) (tag_of Supplied.the_type r) → [] ≡ supplied_value ty d t

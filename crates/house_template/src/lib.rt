@@ -1,4 +1,6 @@
 // A query over the site's dataset and the house template: the value out of whichever of the two supplies it, the site's first.
+#![tactic(auto)]
+
 ghost use Rattle.std.specs.Prelude.{◌≡◌};
 ghost use Rattle.refusal.specs.Answer.{given, absent};
 ghost use Rattle.tlv_last.specs.Last.{spot_at};
@@ -10,7 +12,7 @@ use refusal::Refusal;
 use tlv_last::Found;
 
 // Which of the two supplies the value, and where its entry lies there: its first byte, its value's first byte, its value's length.
-#[derive(Drop)]
+#[derive(Clone, Copy)]
 pub enum Supplied {
     Site {
         place: usize,

@@ -1,4 +1,6 @@
 // The edits of a dataset that has an index beside it: the edited dataset and its index, both into lent outputs, or neither.
+#![tactic(auto)]
+
 ghost use Rattle.std.specs.Prelude.{◌≡◌};
 ghost use Rattle.refusal.specs.Output.{written_answer};
 ghost use Rattle.tlv_rewriting.specs.Rewrite.{rewritten, with_set};

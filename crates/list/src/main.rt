@@ -1,4 +1,6 @@
 // The listing program: reads hex text from standard input and prints the flat listing of its dataset or payload, or the refusal.
+#![tactic(auto)]
+
 use refusal::Written;
 
 fn main() {

@@ -59,8 +59,8 @@ module _ (lists : List ℕ → Answer (List ℕ)) where
   unfolding report_by hex_by
   report_large x h = ap (λ (a : Answer (List ℕ)). told (then_do a lists)) (sym (decoded_large (line_of x) (omega (arith, line_length x))))
 
-  pub report_reads : (x : List ℕ) → report_by lists x ≡ report_by lists (take report_reads x)
-  report_reads x =
+  pub report_reads_lem : (x : List ℕ) → report_by lists x ≡ report_by lists (take report_reads x)
+  report_reads_lem x =
       by_test (ltb report_reads (length x))
       (λ e. let long : length (take report_reads x) ≡ report_reads = length-take-le report_reads x (omega (arith, ltb-true)) in
       report_large x (omega (arith, ltb-true)) ∙ sym (report_large (take report_reads x) (omega arith)))

@@ -1,4 +1,6 @@
 // The flat listing of a dataset or payload as text, from bytes and from hex, and what the program `list` prints.
+#![tactic(auto)]
+
 ghost use Rattle.std.specs.Prelude.{◌≡◌, [], ◌∷◌, length};
 ghost use Rattle.refusal.specs.Answer.{given};
 ghost use Rattle.refusal.specs.Output.{output, emit, placing, written_answer};

@@ -1,4 +1,6 @@
 // The nested listing program: reads hex text from standard input and prints the nested listing of its payload, or the refusal.
+#![tactic(auto)]
+
 use refusal::Written;
 
 fn main() {

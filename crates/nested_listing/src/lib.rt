@@ -1,4 +1,6 @@
 // The nested listing of a payload: its entries, the TLVs of its Network Data, and the inner TLVs of their prefixes; and what the program `nested` prints.
+#![tactic(auto)]
+
 ghost use Rattle.std.specs.Prelude.{◌≡◌, [], ◌∷◌, ◌≤◌};
 ghost use Rattle.refusal.specs.Answer.{given};
 ghost use Rattle.refusal.specs.Output.{output, emit, placing, written_answer};
@@ -26,7 +28,7 @@ fn constants() -> [usize; 1]
 }
 
 // The list that an item holds: from a place of its value on, or none that can be framed, or none at all.
-#[derive(Drop)]
+#[derive(Clone, Copy)]
 enum Held {
     List(usize),
     Cut,

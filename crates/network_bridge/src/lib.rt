@@ -1,4 +1,6 @@
 // The bridge to `network_tables::decode` for callers that have tables by value: parts of them are lent to it, and they come back.
+#![tactic(auto)]
+
 ghost use Rattle.std.specs.Prelude.{◌≡◌, [], ◌∷◌, ◌≤◌};
 ghost use Rattle.network_data.specs.Decode.{decode_network_data};
 ghost use Rattle.network_bridge.specs.Parts.{places, lent_of, left_whole, outcome_of};
@@ -15,7 +17,7 @@ fn constants() -> [usize; 1]
     [PLACES]
 }
 
-#[derive(Drop)]
+#[derive(Clone, Copy)]
 pub struct Tables {
     pub prefixes: [PrefixEntry; PLACES],
     pub has_route: [HasRouteEntry; PLACES],
@@ -23,7 +25,7 @@ pub struct Tables {
 }
 
 // The answer of a call, and the tables as it left them.
-#[derive(Drop)]
+#[derive(Clone, Copy)]
 pub struct Decoded {
     pub answer: Checked,
     pub tables: Tables,

@@ -26,7 +26,7 @@ pub(crate) fn refuse(fault: Fault, place: usize) -> Checked
 }
 
 // The rows so far and those of one more list.
-#[derive(Drop)]
+#[derive(Clone, Copy)]
 pub(crate) enum Sum {
     Rows(usize),
     Refused(Refusal),

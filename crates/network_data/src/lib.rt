@@ -1,4 +1,6 @@
 // Thread Network Data (the values of type 7 in decode.rs): its records, and the check of a value.
+#![tactic(auto)]
+
 mod checks;
 
 ghost use Rattle.std.specs.Prelude.{◌≡◌, ◌∷◌};
@@ -54,14 +56,14 @@ fn type_constants() -> [u8; 4]
     ]
 }
 
-#[derive(Drop)]
+#[derive(Clone, Copy)]
 pub struct HasRouteEntry {
     pub rloc16: u16,
     pub router_preference: u8,
     pub is_nat64: bool,
 }
 
-#[derive(Drop)]
+#[derive(Clone, Copy)]
 pub struct BorderRouterEntry {
     pub rloc16: u16,
     pub prefix_preference: u8,
@@ -75,21 +77,21 @@ pub struct BorderRouterEntry {
     pub is_dp: bool,
 }
 
-#[derive(Drop)]
+#[derive(Clone, Copy)]
 pub struct SixLowPanContext {
     pub is_compress: bool,
     pub context_id: u8,
     pub context_length: u8,
 }
 
-#[derive(Drop)]
+#[derive(Clone, Copy)]
 pub enum OptContext {
     Some(SixLowPanContext),
     None,
 }
 
 // A prefix: its bytes, with zeros after them, and how many rows of each kind are its own.
-#[derive(Drop)]
+#[derive(Clone, Copy)]
 pub struct PrefixEntry {
     pub domain_id: u8,
     pub prefix_bit_length: u8,
@@ -100,14 +102,14 @@ pub struct PrefixEntry {
 }
 
 // How many records a value has.
-#[derive(Drop)]
+#[derive(Clone, Copy)]
 pub struct Counts {
     pub prefixes: usize,
     pub has_routes: usize,
     pub border_routers: usize,
 }
 
-#[derive(Drop)]
+#[derive(Clone, Copy)]
 pub enum Checked {
     Counted(Counts),
     Refused(Refusal),

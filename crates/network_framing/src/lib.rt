@@ -1,9 +1,11 @@
 // The framing of Thread Network Data (the values of type 7 in decode.rs): what stands at a place, and where a prefix's inner TLVs begin.
+#![tactic(auto)]
+
 ghost use Rattle.std.specs.Prelude.{◌≡◌, length};
 ghost use Rattle.network_framing.specs.Frame.{sub_in, head_at, sub_answer, head_answer};
 
 // A TLV of Network Data: its type, and where its value starts and how long it is. Cut is refusal 5.
-#[derive(Drop)]
+#[derive(Clone, Copy)]
 pub enum SubTlv {
     Item { ty: u8, start: usize, len: usize },
     Cut,
@@ -11,7 +13,7 @@ pub enum SubTlv {
 }
 
 // The place where a prefix's inner TLVs begin, after its own bytes. Short is refusal 5.
-#[derive(Drop)]
+#[derive(Clone, Copy)]
 pub enum Head {
     Inner(usize),
     Short,

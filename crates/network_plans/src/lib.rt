@@ -1,4 +1,6 @@
 // What goes into lent tables of Network Data records is planned before a table is touched.
+#![tactic(auto)]
+
 ghost use Rattle.std.specs.Prelude.{◌≡◌};
 ghost use Rattle.refusal.specs.Answer.{refused};
 ghost use Rattle.network_data.specs.Decode.{decode_network_data};
@@ -9,7 +11,7 @@ use network_data::{Checked, Counts, check};
 use refusal::{Fault, Refusal};
 
 // The answer, and how many records go into the tables: none where the value is refused or a table is too short.
-#[derive(Drop)]
+#[derive(Clone, Copy)]
 pub struct Plan {
     pub answer: Checked,
     pub prefixes: usize,

@@ -1,4 +1,6 @@
 // The records of Thread Network Data (the values of type 7 in decode.rs): by number, and into lent tables.
+#![tactic(auto)]
+
 mod lent;
 mod prefixes;
 mod rows;
@@ -18,14 +20,14 @@ use prefixes::prefix_number;
 use refusal::Refusal;
 use rows::{border_number, first_border, first_route, route_number};
 
-#[derive(Drop)]
+#[derive(Clone, Copy)]
 pub enum ReadHasRoute {
     Value(HasRouteEntry),
     Absent,
     Refused(Refusal),
 }
 
-#[derive(Drop)]
+#[derive(Clone, Copy)]
 pub enum ReadBorderRouter {
     Value(BorderRouterEntry),
     Absent,
@@ -33,7 +35,7 @@ pub enum ReadBorderRouter {
 }
 
 // Whether a record is there.
-#[derive(Drop)]
+#[derive(Clone, Copy)]
 pub enum Presence {
     Valid,
     Absent,
@@ -41,7 +43,7 @@ pub enum Presence {
 }
 
 // A copy of a prefix's record, or one of zeros and why there is none.
-#[derive(Drop)]
+#[derive(Clone, Copy)]
 pub struct ReadPrefix {
     pub answer: Presence,
     pub entry: PrefixEntry,

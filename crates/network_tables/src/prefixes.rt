@@ -15,7 +15,7 @@ use network_data::{
 use network_framing::{SubTlv, sub_at, sub_in};
 
 // Where a prefix's value starts and ends.
-#[derive(Drop)]
+#[derive(Clone, Copy)]
 pub(crate) struct Span {
     pub(crate) start: usize,
     pub(crate) end: usize,

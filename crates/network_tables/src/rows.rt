@@ -12,7 +12,7 @@ use network_data::{
 use network_framing::{Head, SubTlv, head_at, sub_at, sub_in};
 
 // The next row, how many are left in its TLV, where that ends, and where its prefix ends. None are left where there is no row.
-#[derive(Drop)]
+#[derive(Clone, Copy)]
 pub(crate) struct Rows {
     pub(crate) at: usize,
     pub(crate) left: usize,

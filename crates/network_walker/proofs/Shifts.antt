@@ -143,16 +143,16 @@ comes_more k s h (Item t a n) found go =
     ap (λ (x : Came). came (tlv t (take n (drop a s)) ∷ x.tlvs) x.stop) (go (drop (a + n) s) l ∙ sym (came_moved s (a + n) i.1))
     ∙ ap (came_of s) (sym (turn_item s 0 (length s) (Item t a n) found t a n refl))
 
-comes_by : (k : ℕ) (s : List ℕ) → length s ≤ k → comes_by k s ≡ came_of s (walk_in s 0 (length s))
+comes_by_lem : (k : ℕ) (s : List ℕ) → length s ≤ k → comes_by k s ≡ came_of s (walk_in s 0 (length s))
 unfolding comes_by rest_of
-comes_by zero s h = ap (came_of s) (sym (walk_end s 0 (length s) h))
-comes_by (suc k) s h =
+comes_by_lem zero s h = ap (came_of s) (sym (walk_end s 0 (length s) h))
+comes_by_lem (suc k) s h =
     ap (λ (a : Answer Piece). finds s a (comes_by k (after s a))) (sym (sub_agrees s 0 (length s)))
-    ∙ comes_more k s h (sub_place s 0 (length s)) (sub_agrees s 0 (length s)) (λ d l. comes_by k d l)
+    ∙ comes_more k s h (sub_place s 0 (length s)) (sub_agrees s 0 (length s)) (λ d l. comes_by_lem k d l)
 
 -- the walker's TLVs, taken until its end, are the definition's, and end as those do
 pub walker_items : (s : List ℕ) → comes_by (length s) s ≡ came_of s (walk_in s 0 (length s))
-walker_items s = comes_by (length s) s (omega arith)
+walker_items s = comes_by_lem (length s) s (omega arith)
 
 nothing_left : (k : ℕ) → comes_by k [] ≡ came [] clean
 unfolding comes_by finds sub_in

@@ -1,4 +1,6 @@
 // The walker over the TLVs of Thread Network Data (the values of type 7 in decode.rs), and its steps for callers that have a plain slice.
+#![tactic(auto)]
+
 mod framing;
 
 ghost use Rattle.std.specs.Prelude.{◌≡◌, length};
@@ -9,7 +11,7 @@ use framing::{first_of, rest_of};
 use network_framing::SubTlv;
 
 // The walker: it keeps the bytes still to be read.
-#[derive(Drop)]
+#[derive(Clone, Copy)]
 pub struct NetworkDataTlvIter<'a> {
     pub bytes: &'a [u8],
 }

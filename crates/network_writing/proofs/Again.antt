@@ -30,7 +30,7 @@ use Rattle.network_writing.proofs.Items.{length_items}
 use Rattle.network_writing.proofs.Rows.{route_size, border_size}
 use Rattle.network_writing.proofs.Round.{Small, value_size}
 use Rattle.network_writing.proofs.Few.{AllFew, check_few, Whole, Passed, values_whole}
-use Rattle.network_writing.proofs.Extents.{byte_below, extent, share, Lies, walk_extent, walk_lies, three_shares, rows_share, rows_size, no_items, context_share, context_fits}
+use Rattle.network_writing.proofs.Extents.{byte_below, extent, share, Lies, walk_extent, walk_lies, three_shares, rows_share, rows_size, no_items, context_share, context_fits_lem}
 
 -- ---- a prefix whose head is whole
 
@@ -118,10 +118,10 @@ module _ (s : List ℕ) (start end : ℕ) (w : Whole s start end) where
   prefix_length =
       omega (arith, value_size p, inner_size p, routes_size, borders_size, context_size, three_shares es, walk_extent s end (end - w.at) w.at (omega arith), head_at_lem, head_before)
 
-  prefix_fits : Bytes s → end - start ≤ most_item → prefix_fits p ≡ true
+  prefix_fits_lem : Bytes s → end - start ≤ most_item → prefix_fits p ≡ true
   unfolding prefix_fits prefix_at context_fits
-  prefix_fits b small =
-      rw (eq-eqb _ _ (opened_sized (part s start end)), context_fits s (inner s start end) absent refl)
+  prefix_fits_lem b small =
+      rw (eq-eqb _ _ (opened_sized (part s start end)), context_fits_lem s (inner s start end) absent refl)
       (rw (all_map route_fits (route_at s) (places_in 0 3 (inner s start end)) (λ at. le-leb (get_or s (at + 2) 0 / 64) 3 (let k = byte_below s (at + 2) b in omega arith)))
       (rw (all_map border_fits (border_at s) (places_in 2 4 (inner s start end)) (λ at. le-leb (get_or s (at + 2) 0 / 64) 3 (let k = byte_below s (at + 2) b in omega arith)))
       (le-leb (length (prefix_value p)) most_item (omega (arith, prefix_length)))))
@@ -134,7 +134,7 @@ module _ (s : List ℕ) where
   prefixes_fit b (e ∷ es) l w =
       by_test (eqb e.ty 1)
       (λ t.
-      let one = prefix_fits s e.start (e.start + e.len) (w.0 (eqb-true e.ty 1 t)) b (omega (arith, l.0.1)) in
+      let one = prefix_fits_lem s e.start (e.start + e.len) (w.0 (eqb-true e.ty 1 t)) b (omega (arith, l.0.1)) in
       rw (t, one) (prefixes_fit b es l.1 w.1))
       (λ t. rw t (prefixes_fit b es l.1 w.1))
 

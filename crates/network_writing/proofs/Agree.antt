@@ -26,20 +26,20 @@ empty [] e = refl
 empty (x ∷ l) e = absurd (omega arith)
 
 -- ---- all rows are the prefixes'
-pub all_routes : (es : List PrefixEntry) (hs : List HasRouteEntry) (bs : List BorderRouterEntry) → routes_asked es ≡ length hs → all_routes (prefixes_of es hs bs) ≡ hs
+pub all_routes_lem : (es : List PrefixEntry) (hs : List HasRouteEntry) (bs : List BorderRouterEntry) → routes_asked es ≡ length hs → all_routes (prefixes_of es hs bs) ≡ hs
 unfolding routes_asked prefixes_of all_routes
-all_routes [] hs bs e = empty hs (sym e)
-all_routes (p ∷ es) hs bs e =
+all_routes_lem [] hs bs e = empty hs (sym e)
+all_routes_lem (p ∷ es) hs bs e =
     let n = length-drop p.has_routes hs in
-    ap (λ (l : List HasRouteEntry). take p.has_routes hs ++ l) (all_routes es (drop p.has_routes hs) (drop p.border_routers bs) (omega arith))
+    ap (λ (l : List HasRouteEntry). take p.has_routes hs ++ l) (all_routes_lem es (drop p.has_routes hs) (drop p.border_routers bs) (omega arith))
     ∙ take-append-drop p.has_routes hs
 
-pub all_borders : (es : List PrefixEntry) (hs : List HasRouteEntry) (bs : List BorderRouterEntry) → borders_asked es ≡ length bs → all_borders (prefixes_of es hs bs) ≡ bs
+pub all_borders_lem : (es : List PrefixEntry) (hs : List HasRouteEntry) (bs : List BorderRouterEntry) → borders_asked es ≡ length bs → all_borders (prefixes_of es hs bs) ≡ bs
 unfolding borders_asked prefixes_of all_borders
-all_borders [] hs bs e = empty bs (sym e)
-all_borders (p ∷ es) hs bs e =
+all_borders_lem [] hs bs e = empty bs (sym e)
+all_borders_lem (p ∷ es) hs bs e =
     let n = length-drop p.border_routers bs in
-    ap (λ (l : List BorderRouterEntry). take p.border_routers bs ++ l) (all_borders es (drop p.has_routes hs) (drop p.border_routers bs) (omega arith))
+    ap (λ (l : List BorderRouterEntry). take p.border_routers bs ++ l) (all_borders_lem es (drop p.has_routes hs) (drop p.border_routers bs) (omega arith))
     ∙ take-append-drop p.border_routers bs
 
 pub as_many : (es : List PrefixEntry) (hs : List HasRouteEntry) (bs : List BorderRouterEntry) → length (prefixes_of es hs bs) ≡ length es
@@ -74,8 +74,8 @@ module _ (es : List PrefixEntry) (hs : List HasRouteEntry) (bs : List BorderRout
   pub small : Small (prefixes_of es hs bs)
   small = record {
     prefixes = omega (arith, as_many es hs bs);
-    routes = omega (arith, ap length (all_routes es hs bs h));
-    borders = omega (arith, ap length (all_borders es hs bs b));
+    routes = omega (arith, ap length (all_routes_lem es hs bs h));
+    borders = omega (arith, ap length (all_borders_lem es hs bs b));
   }
 
   module _ (fits : network_fits (prefixes_of es hs bs) ≡ true) (short : length (network_bytes (prefixes_of es hs bs)) ≤ most_bytes) where
@@ -88,7 +88,7 @@ module _ (es : List PrefixEntry) (hs : List HasRouteEntry) (bs : List BorderRout
     pub tables_back : (q : ℕ) → (decode_network_data q (network_bytes (prefixes_of es hs bs)) ≡ given (prefixes_of es hs bs)) × Back (prefixes_of es hs bs)
     tables_back q = (
       network_back (prefixes_of es hs bs) fits q small short,
-      record { prefixes = entries_back es hs bs (omega arith) (omega arith); routes = all_routes es hs bs h; borders = all_borders es hs bs b },
+      record { prefixes = entries_back es hs bs (omega arith) (omega arith); routes = all_routes_lem es hs bs h; borders = all_borders_lem es hs bs b },
     )
 
 -- ---- the used part of a longer table

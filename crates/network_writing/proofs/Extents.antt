@@ -168,11 +168,11 @@ module _ (s : List ℕ) where
       one_context : (c : SixLowPanContext) → length (items_bytes (context_items (given c))) ≡ 4
       one_context c = refl
 
-  pub context_fits : (es : List Piece) (x : Answer SixLowPanContext) → context_fits x ≡ true → context_fits (last_context s x es) ≡ true
+  pub context_fits_lem : (es : List Piece) (x : Answer SixLowPanContext) → context_fits x ≡ true → context_fits (last_context s x es) ≡ true
   unfolding last_context context_fits
-  context_fits [] x h = h
-  context_fits (e ∷ es) x h =
-      context_fits es (pick (eqb e.ty 3) (pick (eqb e.len 2) (given (context_at s e.start)) x) x)
+  context_fits_lem [] x h = h
+  context_fits_lem (e ∷ es) x h =
+      context_fits_lem es (pick (eqb e.ty 3) (pick (eqb e.len 2) (given (context_at s e.start)) x) x)
       (pick_all (λ (y : Answer SixLowPanContext). context_fits y ≡ true) (eqb e.ty 3) _ x
       (λ t. pick_all (λ (y : Answer SixLowPanContext). context_fits y ≡ true) (eqb e.len 2) (given (context_at s e.start)) x
       (λ u. le-leb (get_or s e.start 0 % 16) 15 (omega arith)) (λ u. h)) (λ t. h))

@@ -1,5 +1,7 @@
 // What is said of a row of a child table that is paired with the address lists: the rule, whose lists count, and the number that stands for the answer
 // in an output.
+#![tactic(auto)]
+
 ghost use Rattle.std.specs.Prelude.{◌≡◌, [], ◌∷◌};
 ghost use Rattle.pair_rule.specs.Pairing.{parent_of, counts, judged};
 ghost use Rattle.pair_rule.specs.Codes.{code_none, code_unclear, code_of, meant};
@@ -17,7 +19,7 @@ fn constants() -> [u16; 2]
 }
 
 // What is said of a row of the child table: it is paired with the address list of that number, from 0; it has none; or that is unclear.
-#[derive(Drop)]
+#[derive(Clone, Copy)]
 pub enum Pairing {
     Paired(u16),
     None,

@@ -206,15 +206,15 @@ module _ (s : List ℕ) (n : ℕ) (told : given n ≡ on_given length (checked s
 
     -- by the tables
     module _ (own : Answer ℕ) (mac : own ≡ own_in (last_value 1 s)) where
-      own_mac : own ≡ own_mac es
+      own_mac_lem : own ≡ own_mac es
       unfolding own_mac
-      own_mac = mac ∙ ap own_in (last_is 1) ∙ own_is absent es own_none all
+      own_mac_lem = mac ∙ ap own_in (last_is 1) ∙ own_is absent es own_none all
 
       module _ (rows count place : List ℕ) (r : Counts rows (rows_of v)) (c : Counts count (keys_of own (lists_of es))) (q : Places place (keys_of own (lists_of es))) where
         judged_by : (id : ℕ) → id < 512 → unclear_without own (judged (get_or rows id 0) (get_or count id 0) (get_or place id 0)) ≡ pairing (own_mac es) (rows_of v) (lists_of es) id
         judged_by id h =
             rw (r.is id h, c.is id h, q.is id h)
-            (judged_is own (rows_of v) (lists_of es) id h ∙ ap (λ (a : Answer ℕ). pairing a (rows_of v) (lists_of es) id) own_mac)
+            (judged_is own (rows_of v) (lists_of es) id h ∙ ap (λ (a : Answer ℕ). pairing a (rows_of v) (lists_of es) id) own_mac_lem)
 
         pub codes_are : codes s ≡ given (codes_by own rows count place (rows_of v))
         unfolding codes_by

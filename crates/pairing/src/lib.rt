@@ -1,4 +1,6 @@
 // Rows of a payload's child table, paired by child ID with those of its address lists that are of the router that its MAC Address names.
+#![tactic(auto)]
+
 ghost use Rattle.std.specs.Prelude.{◌≡◌, ◌/◌, ◌≤◌, ◌<◌, length};
 ghost use Rattle.refusal.specs.Sizes.{most_bytes};
 ghost use Rattle.refusal.specs.Output.{put, output, emit};
@@ -16,14 +18,14 @@ use tlv::{Counted, Frame};
 use wire::Read16;
 
 // How many rows were answered.
-#[derive(Drop)]
+#[derive(Clone, Copy)]
 pub enum Answered {
     Rows(usize),
     Refused(Refusal),
 }
 
 // What is said of one row; `Absent` past the last.
-#[derive(Drop)]
+#[derive(Clone, Copy)]
 pub enum ReadPairing {
     Value(Pairing),
     Absent,
@@ -31,14 +33,14 @@ pub enum ReadPairing {
 }
 
 // The payload's own MAC Address, where it has one.
-#[derive(Drop)]
+#[derive(Clone, Copy)]
 enum OwnMac {
     Value(u16),
     Absent,
 }
 
 // For each child ID how many lists that count have it, and the number of the last of them among all lists.
-#[derive(Drop)]
+#[derive(Clone, Copy)]
 struct Lists {
     count: [u16; 512],
     place: [u16; 512],

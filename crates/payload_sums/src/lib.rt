@@ -1,4 +1,6 @@
 // What a diagnostic payload says as one number, all fields of its record and all its rows added up: for crates/speed.
+#![tactic(auto)]
+
 mod rows;
 mod sums;
 
@@ -12,7 +14,7 @@ use diag::{Decoded, NetDiagData};
 use refusal::Refusal;
 use rows::payload_sum;
 
-#[derive(Drop)]
+#[derive(Clone, Copy)]
 pub enum Summed {
     Sum(u64),
     Refused(Refusal),

@@ -1,4 +1,6 @@
 // Values that are plain bytes (dataset.rs): copies of 8 and of 16 bytes, a network name, a PSKc.
+#![tactic(auto)]
+
 ghost use Rattle.std.specs.Prelude.{◌≡◌};
 ghost use Rattle.refusal.specs.Answer.{refused};
 ghost use Rattle.wire.specs.Be.{ruled};
@@ -7,7 +9,7 @@ ghost use Rattle.plain_values.specs.Plain.{checked_answer, checked, copy8, copy1
 use refusal::{Fault, Refusal};
 
 // Whether a value is there and keeps its rule.
-#[derive(Drop)]
+#[derive(Clone, Copy)]
 pub enum Checked {
     Valid,
     Absent,
@@ -15,14 +17,14 @@ pub enum Checked {
 }
 
 // A copy of a value of 8 bytes, or zeros and why there is none.
-#[derive(Drop)]
+#[derive(Clone, Copy)]
 pub struct Array8 {
     pub answer: Checked,
     pub bytes: [u8; 8],
 }
 
 // A copy of a value of 16 bytes, or zeros and why there is none.
-#[derive(Drop)]
+#[derive(Clone, Copy)]
 pub struct Array16 {
     pub answer: Checked,
     pub bytes: [u8; 16],

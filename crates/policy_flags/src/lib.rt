@@ -1,12 +1,14 @@
 // The flags of a security policy (dataset.rs), and the version threshold for routing that they hold.
+#![tactic(auto)]
+
 ghost use Rattle.std.specs.Prelude.{◌≡◌};
 ghost use Rattle.policy_flags.specs.Threshold.{flag_masks, has_all, threshold, with_threshold};
 
-#[derive(Drop)]
+#[derive(Clone, Copy)]
 pub struct SecurityPolicyFlags(pub u16);
 
 // The version threshold for routing.
-#[derive(Drop)]
+#[derive(Clone, Copy)]
 pub enum ThreadProtocolVersion {
     V1Or2,
     V3,

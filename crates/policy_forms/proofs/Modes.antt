@@ -68,13 +68,13 @@ as_either (b.Value x) = r.Value (p.Four x)
 as_either b.Absent = r.Absent
 as_either (b.Refused x) = r.Refused x
 
-as_either : (x : ReadPolicy) → on_given four_numbers (policy_answer x) ≡ either_answer (as_either x)
-as_either (b.Value x) = refl
-as_either b.Absent = refl
-as_either (b.Refused x) = refl
+as_either_lem : (x : ReadPolicy) → on_given four_numbers (policy_answer x) ≡ either_answer (as_either x)
+as_either_lem (b.Value x) = refl
+as_either_lem b.Absent = refl
+as_either_lem (b.Refused x) = refl
 
 same_as : (a : ReadEither) (x : ReadPolicy) (y : Answer Numbers) → either_answer a ≡ y → y ≡ on_given four_numbers (policy_answer x) → a ≡ as_either x
-same_as a x y says is = either_tells a (as_either x) (says ∙ is ∙ as_either x)
+same_as a x y says is = either_tells a (as_either x) (says ∙ is ∙ as_either_lem x)
 
 -- a is what `EitherPolicy::parse` answers in the four-byte mode, x what `SecurityPolicy::parse` answers
 pub parse_as_base : (place : ℕ) (v : List ℕ) (a : ReadEither) (x : ReadPolicy) → either_answer a ≡ read 4 place v

@@ -1,4 +1,6 @@
 // The security policy in either of the forms in which sites store it: Thread 1.1's three bytes, and the four bytes of later versions.
+#![tactic(auto)]
+
 ghost use Rattle.std.specs.Prelude.{◌≡◌};
 ghost use Rattle.refusal.specs.Answer.{given};
 ghost use Rattle.refusal.specs.Output.{output, written_answer, emit};
@@ -13,28 +15,28 @@ use tlv_last::Found;
 use values::{ReadPolicy, SecurityPolicy};
 
 // The form that a policy is read in. The caller names it: it is never guessed from the length.
-#[derive(Drop)]
+#[derive(Clone, Copy)]
 pub enum PolicyForm {
     ThreeBytes,
     FourBytes,
 }
 
 // A policy of Thread 1.1: its flags are one byte, kept as it is.
-#[derive(Drop)]
+#[derive(Clone, Copy)]
 pub struct OlderPolicy {
     pub rotation_time: u16,
     pub flags: u8,
 }
 
 // A policy of either form.
-#[derive(Drop)]
+#[derive(Clone, Copy)]
 pub enum EitherPolicy {
     Three(OlderPolicy),
     Four(SecurityPolicy),
 }
 
 // A policy that was read. `Absent` is for the query, which may find no value to read.
-#[derive(Drop)]
+#[derive(Clone, Copy)]
 pub enum ReadEither {
     Value(EitherPolicy),
     Absent,
@@ -42,14 +44,14 @@ pub enum ReadEither {
 }
 
 // The version threshold for routing: three bytes state none.
-#[derive(Drop)]
+#[derive(Clone, Copy)]
 pub enum StatedThreshold {
     Version(ThreadProtocolVersion),
     NoneStated,
 }
 
 // A policy whose threshold was to be set: with the new one, or, where none is stated, as it was.
-#[derive(Drop)]
+#[derive(Clone, Copy)]
 pub enum ThresholdSet {
     Set(EitherPolicy),
     NoneStated(EitherPolicy),

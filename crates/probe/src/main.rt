@@ -1,4 +1,6 @@
 // Makes the public calls of the library reachable: requests on standard input, one answer line each. Its stored answers are the Rust's.
+#![tactic(auto)]
+
 fn main() {
     harness::serve();
 }

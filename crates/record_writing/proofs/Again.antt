@@ -42,7 +42,7 @@ use Rattle.network_writing.proofs.Round.{Small}
 use Rattle.value_writing.specs.Encode.{mode_bytes, connectivity_bytes, leader_bytes, counters_bytes, route64_bytes, children_bytes, ListValue}
 use Rattle.value_writing.specs.Fits.{Words, connectivity_fits, route64_fits, child_fits, whole_addresses, list_fits}
 use Rattle.value_writing.proofs.Round.{leader_size, counters_size}
-use Rattle.value_writing.proofs.Again.{connectivity_fits, buffer_under, connectivity_length, mask_length, route_writes, route_size, leader_small, counters_small, children_fit, children_length, addresses_back, list_whole, list_fits, list_size, list_rloc}
+use Rattle.value_writing.proofs.Again.{connectivity_fits_lem, buffer_under, connectivity_length, mask_length, route_writes, route_size, leader_small, counters_small, children_fit, children_length, addresses_back, list_whole, list_fits_lem, list_size, list_rloc}
 use Rattle.record_writing.specs.Values.{Values, field, one_byte, fields, present, list_content, entries_of}
 use Rattle.record_writing.specs.Typed.{Typed}
 use Rattle.record_writing.specs.Fits.{passes, within_sizes, tables_fit, values_fit, eight_bytes}
@@ -140,7 +140,7 @@ module _ (cs : List Content) (good : Every (λ (c : Content). Good c.ty c.value)
   again_fits : values_fit v ≡ true
   unfolding values_fit values_in read_of keeps_rule all passes
   again_fits =
-      rw (passes_on (Keeps 4) connectivity_of connectivity_fits (last_in 4 absent cs) (last_keeps 4 refl) (λ x k. connectivity_fits x))
+      rw (passes_on (Keeps 4) connectivity_of connectivity_fits (last_in 4 absent cs) (last_keeps 4 refl) (λ x k. connectivity_fits_lem x))
       (rw (passes_on (Keeps 5) route_of route64_fits (last_in 5 absent cs) (last_keeps 5 refl) (λ x k. route_writes x k.1))
       (rw (passes_on Network N.contents network_fits (last_in 7 absent cs) last_network (λ x k. k.fits))
       (rw (addresses_pass (last_in 8 absent cs) (last_keeps 8 refl))
@@ -157,7 +157,7 @@ module _ (cs : List Content) (good : Every (λ (c : Content). Good c.ty c.value)
       lists_fit [] k = refl
       lists_fit (x ∷ xs) k =
           let b = both (leb 2 (length x)) (eqb ((length x - 2) % 16) 0) k.0.1 in
-          rw (list_fits x (leb-true 2 (length x) b.0) (eqb-true ((length x - 2) % 16) 0 b.1)) (lists_fit xs k.1)
+          rw (list_fits_lem x (leb-true 2 (length x) b.0) (eqb-true ((length x - 2) % 16) 0 b.1)) (lists_fit xs k.1)
 
   -- the reading of what is written is the one that was read
   again_says : says v ≡ read_of cs

@@ -102,11 +102,11 @@ network_small l c f k =
     small (take c.prefixes l.prefixes) (take c.has_routes l.routes) (take c.border_routers l.borders) k.routes_all k.borders_all
     (omega (arith, f.prefixes)) (omega (arith, f.routes)) (omega (arith, f.borders))
 
-tables_fit : (l : Lent) (a : Answer Counts) → passes counts_fit a ≡ true → passes (tables_agree l) a ≡ true → passes within_sizes (on_given (network_of l) a) ≡ true
+tables_fit_lem : (l : Lent) (a : Answer Counts) → passes counts_fit a ≡ true → passes (tables_agree l) a ≡ true → passes within_sizes (on_given (network_of l) a) ≡ true
 unfolding passes
-tables_fit l (given c) f t = within (network_of l c) (network_small l c (few c f) (counted l c t))
-tables_fit l absent f t = refl
-tables_fit l (refused n p i) f t = refl
+tables_fit_lem l (given c) f t = within (network_of l c) (network_small l c (few c f) (counted l c t))
+tables_fit_lem l absent f t = refl
+tables_fit_lem l (refused n p i) f t = refl
 
 -- ---- the whole
 
@@ -126,7 +126,7 @@ told r l bs e =
     let c = picked (agrees r l) _ 15 0 0 bs b.1 in
     let d = picked (values_fit (values_of r l)) _ 15 0 0 bs c.1 in
     let g = agreed r l c.0 in
-    record { lengths = a.0; counts = b.0; agreed = g; tables = tables_fit l (opt_counts r.network_data) b.0 g.tables; fits = d.0; bytes = d.1 }
+    record { lengths = a.0; counts = b.0; agreed = g; tables = tables_fit_lem l (opt_counts r.network_data) b.0 g.tables; fits = d.0; bytes = d.1 }
 
 -- ---- the numbers of a call's record are within their widths
 

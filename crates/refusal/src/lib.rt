@@ -1,4 +1,6 @@
 // What every call of the library may refuse, under the numbers of documents 01 and 02, and the sizes that bound its inputs.
+#![tactic(auto)]
+
 ghost use Rattle.std.specs.Prelude.{◌≡◌, [], ◌∷◌};
 ghost use Rattle.refusal.specs.Sizes.{most_bytes, most_digits, most_entries};
 ghost use Rattle.refusal.specs.Answer.{refused};
@@ -20,7 +22,7 @@ fn constants() -> [usize; 3]
 }
 
 // One case for each number of document 01's table, in its order, then those of document 02.
-#[derive(Drop)]
+#[derive(Clone, Copy)]
 pub enum Fault {
     TooLarge,
     Cut,
@@ -42,7 +44,7 @@ pub enum Fault {
 }
 
 // What is refused, the place in the input that is at fault, and which input that is: 0 the first, 1 the second.
-#[derive(Drop)]
+#[derive(Clone, Copy)]
 pub struct Refusal {
     pub fault: Fault,
     pub place: usize,
@@ -50,7 +52,7 @@ pub struct Refusal {
 }
 
 // The answer of every call that writes into a lent output: how many bytes it wrote at the start, or why none.
-#[derive(Drop)]
+#[derive(Clone, Copy)]
 pub enum Written {
     Bytes(usize),
     Refused(Refusal),

@@ -38,7 +38,7 @@ use Rattle.rehearsal.specs.Handed.{Handed, Rewritten}
 use Rattle.rehearsal.proofs.Sits.{lists_sit}
 use Rattle.rehearsal.proofs.Same.{by_values, handed_first, handed_most, given_map, given_two, Laid, laid_by, said_same, addresses_same, children_same, route_same, network_same, handed, Found, lists_same, children_are, route_is}
 use Rattle.rehearsal.proofs.Read.{Read, read, part_0, part_5, part_7, part_8, part_16, part_17, part_18, part_23, count, reads}
-use Rattle.rehearsal.proofs.Agrees.{part_inside, lists_inside, part_short, lists_short, routers_counted, children_agree, network_agrees}
+use Rattle.rehearsal.proofs.Agrees.{part_inside, lists_inside, part_short, lists_short, routers_counted, children_agree_lem, network_agrees}
 
 module _ (r : NetDiagData) (l : Lent) (b : Bytes l.bytes) (h : Handed r l) where
   abbrev s : List ℕ
@@ -132,7 +132,7 @@ module _ (r : NetDiagData) (l : Lent) (b : Bytes l.bytes) (h : Handed r l) where
         inside,
         routers_counted s known.small l.route64 h.place (opt_part r.route64) (part_5 r s known) h.route64,
         not_12.1,
-        children_agree s l.children (opt_part r.child_table) (part_16 r s known) children,
+        children_agree_lem s l.children (opt_part r.child_table) (part_16 r s known) children,
         le-leb r.child_ipv6_addresses (length l.lists) (omega (arith, count r s known, handed_most (handed s) (address_lists es) l.lists list_at)),
       )
       (lists_inside s (lists_of r l) lists.0)

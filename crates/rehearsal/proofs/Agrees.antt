@@ -83,22 +83,22 @@ module _ (s : List ℕ) where
     routers_counted t place (refused n p i) w h = refl
 
   -- ---- the child table
-  pub children_agree : (cs : List ChildTableEntry) (a : Answer Part) → Given (Sits s 16) a → Given (λ (q : Part). children_of cs q ≡ child_rows (part_bytes s q)) a
+  pub children_agree_lem : (cs : List ChildTableEntry) (a : Answer Part) → Given (Sits s 16) a → Given (λ (q : Part). children_of cs q ≡ child_rows (part_bytes s q)) a
       → passes (children_agree cs) a ≡ true
   unfolding passes keeps_rule
-  children_agree cs (given q) w h =
+  children_agree_lem cs (given q) w h =
       let v = part_bytes s q in
       let size = length_part s q.start q.len w.inside in
       let third = eqb-true (length v % 3) 0 (keeps 16 v refl w.plain) in
       let many = ap length h ∙ child_count v in
       eq-eqb (length (children_of cs q) * 3) q.len (omega arith)
-  children_agree cs absent w h = refl
-  children_agree cs (refused n p i) w h = refl
+  children_agree_lem cs absent w h = refl
+  children_agree_lem cs (refused n p i) w h = refl
 
   -- ---- Network Data
-  counts_fit : (c : Counts) (ps : List Prefix) → c ≡ N.counts_of ps → Small ps → counts_fit c ≡ true
+  counts_fit_lem : (c : Counts) (ps : List Prefix) → c ≡ N.counts_of ps → Small ps → counts_fit c ≡ true
   unfolding counts_fit N.counts_of
-  counts_fit c ps e z =
+  counts_fit_lem c ps e z =
       ap counts_fit e
       ∙ rw (le-leb (length ps) most_prefixes z.prefixes, le-leb (length (all_routes ps)) most_has_routes z.routes, le-leb (length (all_borders ps)) most_border_routers z.borders)
 
@@ -122,5 +122,5 @@ module _ (s : List ℕ) where
   unfolding passes prefixes_in
   network_agrees b l (n.Some x) k g =
       let ps = N.contents (bytes_at s x.start x.len) in
-      (counts_fit x.counts ps k.counts (good_network (bytes_at s x.start x.len) (good s 7 (part x.start x.len) b k.plain)).small, tables_agree_lem l x.counts ps k.counts g)
+      (counts_fit_lem x.counts ps k.counts (good_network (bytes_at s x.start x.len) (good s 7 (part x.start x.len) b k.plain)).small, tables_agree_lem l x.counts ps k.counts g)
   network_agrees b l n.None k g = (refl, refl)

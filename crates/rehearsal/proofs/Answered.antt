@@ -30,7 +30,7 @@ use Rattle.diag.specs.declared.OptPart.TheVariants as p
 use Rattle.diag.specs.declared.OptNetworkData.{OptNetworkData}
 use Rattle.diag.specs.declared.OptNetworkData.TheVariants as n
 use Rattle.diag_tables.specs.Tables.{prefixes_in}
-use Rattle.network_writing.proofs.Agree.{all_routes, all_borders, as_many}
+use Rattle.network_writing.proofs.Agree.{all_routes_lem, all_borders_lem, as_many}
 use Rattle.value_writing.specs.Fits.{whole_addresses}
 use Rattle.value_writing.proofs.Again.{addresses_back}
 use Rattle.record_writing.specs.Fits.{passes}
@@ -52,8 +52,8 @@ unfolding N.counts_of
 counts_are l c k =
     rw (
       as_many (take c.prefixes l.prefixes) (take c.has_routes l.routes) (take c.border_routers l.borders),
-      all_routes (take c.prefixes l.prefixes) (take c.has_routes l.routes) (take c.border_routers l.borders) k.routes_all,
-      all_borders (take c.prefixes l.prefixes) (take c.has_routes l.routes) (take c.border_routers l.borders) k.borders_all,
+      all_routes_lem (take c.prefixes l.prefixes) (take c.has_routes l.routes) (take c.border_routers l.borders) k.routes_all,
+      all_borders_lem (take c.prefixes l.prefixes) (take c.has_routes l.routes) (take c.border_routers l.borders) k.borders_all,
       length-take-le c.prefixes l.prefixes k.prefixes,
       length-take-le c.has_routes l.routes k.routes,
       length-take-le c.border_routers l.borders k.borders,
@@ -72,11 +72,11 @@ network_back bs l (n.Some y) n.None k t h = absurd (let z : ◌≡◌ {A = ℕ} 
 network_back bs l n.None (n.Some z) k t h = absurd (let z : ◌≡◌ {A = ℕ} 0 1 = cc in omega arith)
 network_back bs l n.None n.None k t h = refl
 
-pub prefixes_in : (x : Answer (Said NetworkDataValue)) (ps : List Prefix) → prefixes_said x ≡ given ps → prefixes_in x ≡ ps
+pub prefixes_in_lem : (x : Answer (Said NetworkDataValue)) (ps : List Prefix) → prefixes_said x ≡ given ps → prefixes_in x ≡ ps
 unfolding prefixes_in
-prefixes_in (given x) ps h = cc
-prefixes_in absent ps h = absurd (let z : ◌≡◌ {A = ℕ} 0 1 = cc in omega arith)
-prefixes_in (refused m p i) ps h = absurd (let z : ◌≡◌ {A = ℕ} 0 1 = cc in omega arith)
+prefixes_in_lem (given x) ps h = cc
+prefixes_in_lem absent ps h = absurd (let z : ◌≡◌ {A = ℕ} 0 1 = cc in omega arith)
+prefixes_in_lem (refused m p i) ps h = absurd (let z : ◌≡◌ {A = ℕ} 0 1 = cc in omega arith)
 
 pub none_in : (x : Answer (Said NetworkDataValue)) → prefixes_said x ≡ absent → prefixes_in x ≡ []
 unfolding prefixes_in

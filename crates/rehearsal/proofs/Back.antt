@@ -42,7 +42,7 @@ use Rattle.diag.specs.declared.Decoded.TheVariants as d
 use Rattle.diag.specs.declared.NetDiagData.{NetDiagData}
 use Rattle.diag_tables.specs.Tables.{roomed, answered, outcome, decoded}
 use Rattle.diag_tables.specs.Tables as T
-use Rattle.network_writing.proofs.Agree.{all_routes, all_borders, entries_back}
+use Rattle.network_writing.proofs.Agree.{all_routes_lem, all_borders_lem, entries_back}
 use Rattle.value_writing.specs.Encode.{ListValue}
 use Rattle.value_writing.specs.Fits.{whole_addresses, list_fits}
 use Rattle.value_writing.proofs.Again.{addresses_back}
@@ -59,7 +59,7 @@ use Rattle.rehearsal.specs.Back.{Same, list_answer, TablesBack, Rows, Back}
 use Rattle.rehearsal.proofs.Sits.{Kept, lists_sit}
 use Rattle.rehearsal.proofs.Same.{said_same, addresses_same, handed, found}
 use Rattle.rehearsal.proofs.Settled.{same_8, same_16, same_32, same_mode, same_connectivity, same_leader, same_counters, or_part}
-use Rattle.rehearsal.proofs.Answered.{counts_are, prefixes_said, network_back, prefixes_in, none_in, has_room, every_nth, never_refused, absent_on, router_by, rows_by, addresses_or}
+use Rattle.rehearsal.proofs.Answered.{counts_are, prefixes_said, network_back, prefixes_in_lem, none_in, has_room, every_nth, never_refused, absent_on, router_by, rows_by, addresses_or}
 use Rattle.rehearsal.proofs.Read.{Read, read, part_5, part_7, part_8, part_16, count, reads}
 
 whole_of : (x : ListValue) → list_fits x ≡ true → length x.addresses % 16 ≡ 0
@@ -139,7 +139,7 @@ module _ (r : NetDiagData) (l : Lent) (bs : List ℕ) (e : written r l ≡ given
 
       prefixes_of : T.prefixes_of (diag_of bs q) ≡ network_of l c
       unfolding diag_of
-      prefixes_of = prefixes_in (opt_network_data bs q.network_data) (network_of l c) (prefixes_are ∙ ap (λ (x : Answer Counts). or_absent (on_given (network_of l) x)) are)
+      prefixes_of = prefixes_in_lem (opt_network_data bs q.network_data) (network_of l c) (prefixes_are ∙ ap (λ (x : Answer Counts). or_absent (on_given (network_of l) x)) are)
 
       tables : TablesBack l bs q c
       tables P H B x y z =
@@ -147,7 +147,7 @@ module _ (r : NetDiagData) (l : Lent) (bs : List ℕ) (e : written r l ≡ given
           let hs = take c.has_routes l.routes in
           let rs = take c.border_routers l.borders in
           let k = agreeing in
-          rw (entries_back es hs rs (omega (arith, k.routes_all)) (omega (arith, k.borders_all)), all_routes es hs rs k.routes_all, all_borders es hs rs k.borders_all)
+          rw (entries_back es hs rs (omega (arith, k.routes_all)) (omega (arith, k.borders_all)), all_routes_lem es hs rs k.routes_all, all_borders_lem es hs rs k.borders_all)
           at (filled P H B (network_of l c) prefixes_of c (counts_are l c k) (has_room c (length P) (length H) (length B) x y z))
 
     untouched : opt_counts r.network_data ≡ absent → (P : List PrefixEntry) (H : List HasRouteEntry) (B : List BorderRouterEntry) → decoded bs P H B ≡ outcome (given (diag_of bs q)) P H B

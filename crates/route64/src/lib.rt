@@ -1,4 +1,6 @@
 // Route64 (type 5 of a network-diagnostic payload; decode.rs, model.rs): the routers that its mask assigns, each with its route.
+#![tactic(auto)]
+
 ghost use Rattle.std.specs.Prelude.{◌≡◌, true, List, ℕ, ◌≤◌, length};
 ghost use Rattle.refusal.specs.Answer.{on_given, then_do};
 ghost use Rattle.refusal.specs.Numbered.{nth};
@@ -14,7 +16,7 @@ use refusal::Refusal;
 const ROUTES_AT: usize = 1 + diag_rules::ROUTER_ID_MASK_LEN;
 
 // One assigned router of a Route64.
-#[derive(Drop)]
+#[derive(Clone, Copy)]
 pub struct RouteDataEntry {
     pub router_id: u8,
     pub outgoing_link_quality: u8,
@@ -23,7 +25,7 @@ pub struct RouteDataEntry {
 }
 
 // The rows are the first `count` of `route_data`, in mask order; those after them are zeros.
-#[derive(Drop)]
+#[derive(Clone, Copy)]
 pub struct Route64 {
     pub id_sequence: u8,
     pub mask: [u8; 8],
@@ -32,14 +34,14 @@ pub struct Route64 {
 }
 
 // A Route64, or zeros and why there is none: an enum cannot hold an array.
-#[derive(Drop)]
+#[derive(Clone, Copy)]
 pub struct ReadRoute64 {
     pub answer: Judged,
     pub route: Route64,
 }
 
 // One row; `Absent` past the last.
-#[derive(Drop)]
+#[derive(Clone, Copy)]
 pub enum ReadRoute {
     Value(RouteDataEntry),
     Absent,

@@ -81,8 +81,8 @@ older_name place v = by_today (t.name_today place v) (o.name_still older today o
 pub older_mask : (place : ℕ) (v : List ℕ) → Still (c.mask_in older place v) (items place v)
 older_mask place v = by_today (t.mask_today place v) (o.mask_still older today o.older_under place v)
 
-pub older_network : (place : ℕ) (v : List ℕ) → Still (c.network_in older place v) (decode_network_data place v)
-older_network place v = by_today (t.network_today place v) (o.network_still older today o.older_under place v)
+pub older_network_lem : (place : ℕ) (v : List ℕ) → Still (c.network_in older place v) (decode_network_data place v)
+older_network_lem place v = by_today (t.network_today place v) (o.network_still older today o.older_under place v)
 
 pub older_value : (ty place : ℕ) (v : List ℕ) → Still (c.value_in older ty place v) (value_of ty place v)
 older_value ty place v = by_today (t.value_today ty place v) (o.value_still older today o.older_under ty place v)
@@ -91,8 +91,8 @@ older_value ty place v = by_today (t.value_today ty place v) (o.value_still olde
 pub older_last : (ty i : ℕ) (s : List ℕ) → Still (c.last_in older ty i s) (last_entry ty i s)
 older_last ty i s = by_today (t.last_today ty i s) (o.last_still older today o.older_under ty i s)
 
-pub older_supplied : (ty : ℕ) (d h : List ℕ) → Still (c.supplied_in older ty d h) (supplied ty d h)
-older_supplied ty d h = by_today (t.supplied_today ty d h) (o.supplied_still older today o.older_under ty d h)
+pub older_supplied_lem : (ty : ℕ) (d h : List ℕ) → Still (c.supplied_in older ty d h) (supplied ty d h)
+older_supplied_lem ty d h = by_today (t.supplied_today ty d h) (o.supplied_still older today o.older_under ty d h)
 
 pub older_spot : (ty i : ℕ) (s : List ℕ) → Still (on_given spot (c.last_in older ty i s)) (last_spot ty i s)
 unfolding last_spot
@@ -100,7 +100,7 @@ older_spot ty i s = still_on spot (c.last_in older ty i s) (last_entry ty i s) (
 
 pub older_supplied_spot : (ty : ℕ) (d h : List ℕ) → Still (on_given (on_supply spot) (c.supplied_in older ty d h)) (supplied_spot ty d h)
 unfolding supplied_spot
-older_supplied_spot ty d h = still_on (on_supply spot) (c.supplied_in older ty d h) (supplied ty d h) (older_supplied ty d h)
+older_supplied_spot ty d h = still_on (on_supply spot) (c.supplied_in older ty d h) (supplied ty d h) (older_supplied_lem ty d h)
 
 pub older_query : {A : Type 0} (ty : ℕ) (f : List ℕ → A) (s : List ℕ) → Still (c.query_in older ty f s) (query ty f s)
 older_query ty f s = by_today (t.query_today ty f s) (o.query_still older today o.older_under ty f s)
@@ -197,7 +197,7 @@ pub older_supplied_value : (ty : ℕ) (d h : List ℕ)
     → (ForSize (older_supplied ty d h) × (value_or (older_supplied ty d h) ≡ [])) ⊎ (value_or (older_supplied ty d h) ≡ supplied_value ty d h)
 unfolding supplied_value
 older_supplied_value ty d h =
-    still_part (older_supplied ty d h) (on_given whichever (supplied ty d h)) (still_on whichever (c.supplied_in older ty d h) (supplied ty d h) (older_supplied ty d h))
+    still_part (older_supplied ty d h) (on_given whichever (supplied ty d h)) (still_on whichever (c.supplied_in older ty d h) (supplied ty d h) (older_supplied_lem ty d h))
 
 pub older_report : (x : List ℕ)
     → ForSize (c.hex_by_in older (c.listed_in older) (line_of x)) ⊎ (told (c.hex_by_in older (c.listed_in older) (line_of x)) ≡ report x)
@@ -215,7 +215,7 @@ module _ (P : List PrefixEntry) (H : List HasRouteEntry) (B : List BorderRouterE
 
   pub older_network_tables : (v : List ℕ)
       → (ForSize (older_network v).answer × NetworkKept P H B (older_network v)) ⊎ (older_network v ≡ network.decoded (decode_network_data 0 v) P H B)
-  older_network_tables v = still_network P H B (c.network_in older 0 v) (decode_network_data 0 v) (older_network 0 v)
+  older_network_tables v = still_network P H B (c.network_in older 0 v) (decode_network_data 0 v) (older_network_lem 0 v)
 
   abbrev older_payload : List ℕ → payload.Outcome
   older_payload s = payload.written (c.answered_in older s (length P) (length H) (length B)) P H B

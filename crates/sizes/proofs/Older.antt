@@ -60,14 +60,14 @@ module _ (z y : Sizes) (u : Under z y) where
   framed_still i s =
       still_test z.bytes y.bytes (length s) (refused 1 0 i) (refused 1 0 i) _ _ u.bytes (inl refl) (limited_still i (framing s).stop (framing s).entries)
 
-  limited_ops : (i : ℕ) (st : Stop) (os : List OpAt) → Still (limited_ops z.entries i st os) (limited_ops y.entries i st os)
+  limited_ops_lem : (i : ℕ) (st : Stop) (os : List OpAt) → Still (limited_ops z.entries i st os) (limited_ops y.entries i st os)
   unfolding limited_ops
-  limited_ops i (cut_at p) os = same refl
-  limited_ops i clean os = still_test z.entries y.entries (length os) _ _ (given os) (given os) u.entries (inr (inl refl)) (same refl)
+  limited_ops_lem i (cut_at p) os = same refl
+  limited_ops_lem i clean os = still_test z.entries y.entries (length os) _ _ (given os) (given os) u.entries (inr (inl refl)) (same refl)
 
   pub operations_still : (i : ℕ) (s : List ℕ) → Still (c.operations_in z i s) (c.operations_in y i s)
   operations_still i s =
-      still_test z.bytes y.bytes (length s) (refused 1 0 i) (refused 1 0 i) _ _ u.bytes (inl refl) (limited_ops i (ops_of s).stop (ops_of s).ops)
+      still_test z.bytes y.bytes (length s) (refused 1 0 i) (refused 1 0 i) _ _ u.bytes (inl refl) (limited_ops_lem i (ops_of s).stop (ops_of s).ops)
 
   pub decoded_still : (x : List ℕ) → Still (c.decoded_in z x) (c.decoded_in y x)
   decoded_still x = still_test z.digits y.digits (length x) (refused 1 0 0) (refused 1 0 0) _ _ u.digits (inl refl) (same refl)

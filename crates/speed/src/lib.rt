@@ -1,5 +1,7 @@
 // The calls whose instructions bench/ counts, under C names: each answers what is given, or 2^63 plus the number of the refusal;
 // `speed_last` and `speed_by_index` the length of what is found, and `speed_utf8` yes or no.
+#![tactic(auto)]
+
 mod filled;
 
 ghost use Rattle.std.specs.Prelude.{◌≡◌, length};

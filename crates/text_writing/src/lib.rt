@@ -1,5 +1,7 @@
 // Text into a lent output as far as there is room, counting on past its end: into no room a writer tells the size of its text. A caller that must write all
 // or nothing asks for the size first.
+#![tactic(auto)]
+
 ghost use Rattle.std.specs.Prelude.{◌≡◌, [], ◌∷◌};
 ghost use Rattle.refusal.specs.Output.{placing};
 ghost use Rattle.text_writing.specs.Decimal.{decimal};

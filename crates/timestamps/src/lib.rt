@@ -1,4 +1,6 @@
 // The timestamp of a dataset (dataset.rs), read from its bytes and written.
+#![tactic(auto)]
+
 ghost use Rattle.std.specs.Prelude.{◌≡◌};
 ghost use Rattle.refusal.specs.Answer.{on_given};
 ghost use Rattle.wire.specs.Be.{ruled};
@@ -8,11 +10,11 @@ use refusal::Refusal;
 use wire::Read64;
 
 // Seconds times 65,536, plus ticks times 2, plus the authoritative bit.
-#[derive(Drop)]
+#[derive(Clone, Copy)]
 pub struct Timestamp(pub u64);
 
 // A timestamp that was read. `Absent` is for the queries that find no value to read.
-#[derive(Drop)]
+#[derive(Clone, Copy)]
 pub enum ReadTimestamp {
     Value(Timestamp),
     Absent,

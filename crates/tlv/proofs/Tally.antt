@@ -117,17 +117,17 @@ module _ (i : ℕ) where
 
   -- the same for a call that answers f of the entries
   module _ {B : Type 0} (f : List Entry → B) where
-    on_given : (a : Answer (List Entry)) → on_given f a ≡ then_do a (λ (es : List Entry). given (f es))
-    on_given (given es) = refl
-    on_given absent = refl
-    on_given (refused n p k) = refl
+    on_given_lem : (a : Answer (List Entry)) → on_given f a ≡ then_do a (λ (es : List Entry). given (f es))
+    on_given_lem (given es) = refl
+    on_given_lem absent = refl
+    on_given_lem (refused n p k) = refl
 
     pub answers_given : (s : List ℕ) (n : ℕ) → given n ≡ count i s → on_given f (framed i s) ≡ given (f (framing s).entries)
     answers_given s n e =
-        on_given (framed i s) ∙ counted_given (λ (es : List Entry). given (f es)) s n e ∙ ap (λ (w : Framing). given (f w.entries)) (from_start s)
+        on_given_lem (framed i s) ∙ counted_given (λ (es : List Entry). given (f es)) s n e ∙ ap (λ (w : Framing). given (f w.entries)) (from_start s)
 
     pub answers_refused : (s : List ℕ) (n p k : ℕ) → refused n p k ≡ count i s → refused n p k ≡ on_given f (framed i s)
-    answers_refused s n p k e = counted_refused (λ (es : List Entry). given (f es)) s n p k e ∙ sym (on_given (framed i s))
+    answers_refused s n p k e = counted_refused (λ (es : List Entry). given (f es)) s n p k e ∙ sym (on_given_lem (framed i s))
 
   pub counted_number : (s : List ℕ) (n : ℕ) → given n ≡ count i s → n ≡ length (framing s).entries
   unfolding count

@@ -1,4 +1,6 @@
 // Entries of a type byte, a length and a value (tlv.rs): framing.
+#![tactic(auto)]
+
 ghost use Rattle.std.specs.Prelude.{◌≡◌, [], ◌∷◌, ltb};
 ghost use Rattle.refusal.specs.Sizes.{most_entries, most_short, most_value};
 ghost use Rattle.refusal.specs.Answer.{pick, given, refused};
@@ -31,7 +33,7 @@ fn byte_constants() -> [u8; 1]
 }
 
 // What stands at a place: an entry, whose value is the len bytes from start on; an entry that is cut short; or nothing.
-#[derive(Drop)]
+#[derive(Clone, Copy)]
 pub enum Frame {
     Entry { ty: u8, start: usize, len: usize },
     Cut,
@@ -39,13 +41,13 @@ pub enum Frame {
 }
 
 // The first entry of some bytes.
-#[derive(Drop)]
+#[derive(Clone, Copy)]
 pub enum Parsed {
     Entry { ty: u8, header: usize, len: usize },
     Refused(Refusal),
 }
 
-#[derive(Drop)]
+#[derive(Clone, Copy)]
 pub enum Counted {
     Entries(usize),
     Refused(Refusal),

@@ -1,4 +1,6 @@
 // The last entry of a type (tlv.rs): where it lies, and its value as a part of the input.
+#![tactic(auto)]
+
 ghost use Rattle.std.specs.Prelude.{◌≡◌, eqb};
 ghost use Rattle.refusal.specs.Answer.{pick, given, absent};
 ghost use Rattle.tlv_last.specs.Last.{spot_at, later_of, last_spot, last_value};
@@ -8,7 +10,7 @@ use refusal::Refusal;
 use tlv::{Counted, Frame};
 
 // Where the entry that was asked for lies: its first byte, its value's first byte, its value's length.
-#[derive(Drop)]
+#[derive(Clone, Copy)]
 pub enum Found {
     At {
         place: usize,

@@ -1,4 +1,6 @@
 // Entries of a set written afresh (tlv.rs): all of it or all but a type, and a set with one value replaced or added.
+#![tactic(auto)]
+
 ghost use Rattle.std.specs.Prelude.{◌≡◌, ◌*◌, ◌≤◌, length};
 ghost use Rattle.refusal.specs.Sizes.{most_bytes};
 ghost use Rattle.refusal.specs.Output.{output, emit, written_answer, put};
@@ -12,14 +14,14 @@ use refusal::{Fault, Written};
 use tlv::{Counted, Frame};
 
 // Which entries to write.
-#[derive(Drop)]
+#[derive(Clone, Copy)]
 pub enum Choice {
     All,
     Without(u8),
 }
 
 // The bytes that some entries take as they are written, and their number.
-#[derive(Drop)]
+#[derive(Clone, Copy)]
 struct Extent {
     bytes: usize,
     entries: usize,

@@ -77,9 +77,9 @@ pub size_bound : (n : ℕ) → (n + 2 ≤ size_of n) × (size_of n ≤ n + 4)
 unfolding size_of
 size_bound n = by_test (leb n most_short) (λ e. rw e (omega arith)) (λ e. rw e (omega arith))
 
-pub entry_size : (n : ℕ) → n ≤ most_value → entry_size n ≡ size_of n
+pub entry_size_lem : (n : ℕ) → n ≤ most_value → entry_size n ≡ size_of n
 unfolding entry_size
-entry_size n h = simp (le-leb _ _ h)
+entry_size_lem n h = simp (le-leb _ _ h)
 
 module _ (t : ℕ) (v : List ℕ) where
   pub length_encode : length (encode t v) ≡ size_of (length v)

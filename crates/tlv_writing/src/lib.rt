@@ -1,4 +1,6 @@
 // One entry as it is written (tlv.rs): its size, and the entry from a place on or at the start of an output.
+#![tactic(auto)]
+
 ghost use Rattle.std.specs.Prelude.{◌≡◌, ◌+◌, ◌≤◌, length};
 ghost use Rattle.refusal.specs.Sizes.{most_value};
 ghost use Rattle.refusal.specs.Output.{output, emit, written_answer, put, placing};

@@ -1,4 +1,6 @@
 // Is it UTF-8 (RFC 3629)? The class of a character's first byte, looked up in a table, says which bytes may follow.
+#![tactic(auto)]
+
 mod classes;
 
 ghost use Rattle.std.specs.Prelude.{◌≡◌, ◌<◌, length};

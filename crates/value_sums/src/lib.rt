@@ -1,4 +1,6 @@
 // Numbers added up modulo 2^64, and so the fields of a mode and the counts of Network Data: for crates/payload_sums and crates/speed.
+#![tactic(auto)]
+
 ghost use Rattle.std.specs.Prelude.{◌≡◌};
 ghost use Rattle.value_sums.specs.Sums.{plus, flag, mode_sum, counts_sum};
 

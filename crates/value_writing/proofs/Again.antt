@@ -45,9 +45,9 @@ all_by P f [] h e = refl
 all_by P f (x ∷ xs) h e = rw (h x e.0) (all_by P f xs h e.1)
 
 -- ---- 4, Connectivity
-priority_fits : (b : ℕ) → priority_fits (priority_of b) ≡ true
+priority_fits_lem : (b : ℕ) → priority_fits (priority_of b) ≡ true
 unfolding priority_fits priority_of
-priority_fits b =
+priority_fits_lem b =
     pick_all (λ (z : ℤ). priority_fits z ≡ true) (eqb (b / 64) 1) (pos 1) _ (λ e. refl)
     (λ e. pick_all (λ (z : ℤ). priority_fits z ≡ true) (eqb (b / 64) 0) (pos 0) _ (λ f. refl)
     (λ f. pick_all (λ (z : ℤ). priority_fits z ≡ true) (eqb (b / 64) 3) (negsuc 0) (negsuc 1) (λ g. refl) (λ g. refl)))
@@ -58,9 +58,9 @@ late_length true x y = refl
 late_length false x y = refl
 
 module _ (v : List ℕ) where
-  pub connectivity_fits : connectivity_fits (connectivity_of v) ≡ true
+  pub connectivity_fits_lem : connectivity_fits (connectivity_of v) ≡ true
   unfolding connectivity_fits buffer_of datagrams_of late_fits
-  connectivity_fits = rw (priority_fits (byte_at v 0)) (by_test (leb 10 (length v)) (λ e. rw e) (λ e. rw e))
+  connectivity_fits_lem = rw (priority_fits_lem (byte_at v 0)) (by_test (leb 10 (length v)) (λ e. rw e) (λ e. rw e))
 
   pub buffer_under : Bytes v → Under 65536 (buffer_of v)
   unfolding buffer_of
@@ -157,8 +157,8 @@ module _ (v : List ℕ) (two : 2 ≤ length v) (whole : (length v - 2) % 16 ≡ 
   pub list_whole : joined itself (addresses (drop 2 v)) ≡ drop 2 v
   list_whole = addresses_back (drop 2 v) (rw (length-drop 2 v) whole)
 
-  pub list_fits : list_fits (list_again v) ≡ true
-  list_fits = rw (eq-eqb (number_at 2 0 v % 512) (number_at 2 0 v % 512) refl, list_whole) (eq-eqb (length (drop 2 v) % 16) 0 (rw (length-drop 2 v) whole))
+  pub list_fits_lem : list_fits (list_again v) ≡ true
+  list_fits_lem = rw (eq-eqb (number_at 2 0 v % 512) (number_at 2 0 v % 512) refl, list_whole) (eq-eqb (length (drop 2 v) % 16) 0 (rw (length-drop 2 v) whole))
 
   pub list_size : length (list_bytes (list_again v)) ≡ length v
   list_size = omega (arith, list_length (list_again v), ap length list_whole, length-drop 2 v)

@@ -1,4 +1,6 @@
 // The channel and the security policy of a dataset (dataset.rs), each read from its bytes and written.
+#![tactic(auto)]
+
 ghost use Rattle.std.specs.Prelude.{◌≡◌, ◌+◌, ◌*◌};
 ghost use Rattle.refusal.specs.Answer.{on_given};
 ghost use Rattle.wire.specs.Be.{ruled};
@@ -7,27 +9,27 @@ ghost use Rattle.values.specs.Typed.{channel_of, channel_bytes, channel_answer, 
 use policy_flags::SecurityPolicyFlags;
 use refusal::Refusal;
 
-#[derive(Drop)]
+#[derive(Clone, Copy)]
 pub struct Channel {
     pub page: u8,
     pub channel: u16,
 }
 
-#[derive(Drop)]
+#[derive(Clone, Copy)]
 pub struct SecurityPolicy {
     pub rotation_time: u16,
     pub flags: SecurityPolicyFlags,
 }
 
 // A value that was read. `Absent` is for the queries that find no value to read.
-#[derive(Drop)]
+#[derive(Clone, Copy)]
 pub enum ReadChannel {
     Value(Channel),
     Absent,
     Refused(Refusal),
 }
 
-#[derive(Drop)]
+#[derive(Clone, Copy)]
 pub enum ReadPolicy {
     Value(SecurityPolicy),
     Absent,

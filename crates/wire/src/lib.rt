@@ -1,4 +1,6 @@
 // Numbers of 2, 4 and 8 bytes, big-endian, read from values of exactly that length.
+#![tactic(auto)]
+
 ghost use Rattle.std.specs.Prelude.{◌≡◌, ℕ, ◌^◌, ◌≤◌, ◌<◌, length};
 ghost use Rattle.refusal.specs.Number.{refusal_answer};
 ghost use Rattle.wire.specs.Be.{be, wrong_length, fixed, answer16, answer32, answer64};
@@ -6,21 +8,21 @@ ghost use Rattle.wire.specs.Be.{be, wrong_length, fixed, answer16, answer32, ans
 use refusal::{Fault, Refusal};
 
 // A number that was read. `Absent` is for the queries that find no value to read.
-#[derive(Drop)]
+#[derive(Clone, Copy)]
 pub enum Read16 {
     Value(u16),
     Absent,
     Refused(Refusal),
 }
 
-#[derive(Drop)]
+#[derive(Clone, Copy)]
 pub enum Read32 {
     Value(u32),
     Absent,
     Refused(Refusal),
 }
 
-#[derive(Drop)]
+#[derive(Clone, Copy)]
 pub enum Read64 {
     Value(u64),
     Absent,

@@ -1,4 +1,6 @@
 // The bytes of numbers of 2, 4 and 8 bytes, big-endian.
+#![tactic(auto)]
+
 ghost use Rattle.std.specs.Prelude.{◌≡◌};
 ghost use Rattle.wire_bytes.specs.Bytes.{bytes_of};
 

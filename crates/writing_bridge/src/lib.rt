@@ -1,4 +1,6 @@
 // The bridge to `diag_writing::write` for callers that have tables by value: parts of them are lent to it.
+#![tactic(auto)]
+
 ghost use Rattle.std.specs.Prelude.{◌≡◌, [], ◌∷◌, ◌≤◌, take};
 ghost use Rattle.refusal.specs.Output.{output, emit, written_answer};
 ghost use Rattle.network_bridge.specs.Parts.{places};
@@ -25,14 +27,14 @@ fn constants() -> [usize; 2]
     [CHILD_PLACES, LIST_PLACES]
 }
 
-#[derive(Drop)]
+#[derive(Clone, Copy)]
 pub struct Rows {
     pub children: [ChildTableEntry; CHILD_PLACES],
     pub lists: [ChildIpv6AddrInfo; LIST_PLACES],
 }
 
 // How many records of each table are lent.
-#[derive(Drop)]
+#[derive(Clone, Copy)]
 pub struct Lengths {
     pub prefixes: usize,
     pub has_route: usize,

@@ -1,4 +1,6 @@
 // The plan of the writer, `diag_writing::write`: all that is refused, and how much is written, before the first byte is.
+#![tactic(auto)]
+
 mod lent;
 mod limits;
 mod linked;

@@ -1,9 +1,11 @@
 // No functions: the records that the writer hands from one call to the next, and the walks of its straight lines of calls, which are the same whatever the
 // calls do.
+#![tactic(auto)]
+
 use refusal::Written;
 
 // Where the next prefix goes in the output, and where its rows begin in the two tables.
-#[derive(Drop)]
+#[derive(Clone, Copy)]
 pub struct Cursor {
     pub at: usize,
     pub route: usize,
@@ -11,7 +13,7 @@ pub struct Cursor {
 }
 
 // What the prefixes gone through ask for, and how many bytes they take; once the sum is over the size of a payload it stays.
-#[derive(Drop)]
+#[derive(Clone, Copy)]
 pub struct Prefixes {
     pub routes: usize,
     pub borders: usize,
@@ -20,7 +22,7 @@ pub struct Prefixes {
 }
 
 // Whether the lists gone through are short enough and fit, in so many lent bytes, and how many bytes they take.
-#[derive(Drop)]
+#[derive(Clone, Copy)]
 pub struct Lists {
     pub bytes: usize,
     pub short: bool,
@@ -29,7 +31,7 @@ pub struct Lists {
 }
 
 // What is lent, in bytes and rows; how many rows of each table the record uses; and with what each table's pass begins.
-#[derive(Drop)]
+#[derive(Clone, Copy)]
 pub struct Used {
     pub bytes: usize,
     pub room: usize,
@@ -49,7 +51,7 @@ pub struct Used {
 }
 
 // The answer; whether there is something to write; how many rows of each table then, and how many bytes Network Data has.
-#[derive(Drop)]
+#[derive(Clone, Copy)]
 pub struct Plan {
     pub answer: Written,
     pub go: bool,

@@ -55,7 +55,7 @@ fn put_threshold_set(text: &mut Room, at: usize, set: ThresholdSet) -> usize {
 }
 
 // What is asked of a policy that was read.
-#[derive(Drop)]
+#[derive(Clone, Copy)]
 enum Asked {
     Numbers,
     Threshold,

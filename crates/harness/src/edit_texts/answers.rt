@@ -4,7 +4,7 @@ use crate::texts::Room;
 use refusal::Written;
 
 // Unknown: the request is for none of the calls that were tried.
-#[derive(Drop)]
+#[derive(Clone, Copy)]
 pub(crate) enum Answer {
     Unknown,
     Wrote(Written),

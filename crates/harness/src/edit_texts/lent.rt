@@ -1,5 +1,5 @@
 // Lent outputs: filled with a pattern before a call, and looked at after it.
-ghost use Rattle.std.specs.Prelude.{◌≤◌};
+ghost use Rattle.std.specs.Prelude.{◌≤◌, length};
 
 use crate::requests::least;
 use crate::texts::{PATTERN, Room, part_of, put_bytes_value, put_dirty, put_refusal};
@@ -8,7 +8,7 @@ use refusal::Written;
 // How much of out is lent where cap bytes are asked for, which it fills with the pattern: all of out where out has fewer, since no result
 // of the library is that long.
 pub(crate) fn lend(out: &mut [u8], cap: u64) -> usize
-    ensures* { do ⌜ result ≤ (← (⟦out.len()⟧).entry) ⌝ }
+    ensures { result ≤ length out.old }
 {
     let n = least(cap as usize, out.len());
     let mut i = 0;

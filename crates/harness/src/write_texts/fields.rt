@@ -8,7 +8,7 @@ use crate::write_texts::fits::{fits, row_fits, rows_fit};
 const TYPES: usize = 32;
 
 // Where each type's text stands in the line, with 0 for an end where there is none; and whether all could be read.
-#[derive(Drop)]
+#[derive(Clone, Copy)]
 pub(crate) struct Fields {
     pub(crate) good: bool,
     starts: [usize; TYPES],

@@ -1,0 +1,13 @@
+-- `change_lists::stopped` meets its contract, by its two tests.
+use mathlib.Core.Path.{◌∙◌}
+use borrow.Author.Rules.{rules}
+use Rattle.change_lists.proofs.stopped.Goals as goal
+
+pub returns-then-bad : goal.returns-then-bad
+returns-then-bad c = c.refuse.ensures ∙ simp c.if-bad.true
+
+pub returns-then-many : goal.returns-then-many
+returns-then-many c = c.refuse-then-many.ensures ∙ simp (c.if-bad.false, c.if-many.true-raw)
+
+pub returns : goal.returns
+returns c = simp (c.if-bad.false, c.if-many.false-raw)

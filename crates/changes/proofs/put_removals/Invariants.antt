@@ -1,0 +1,19 @@
+-- `changes::put_removals` meets its contract. The invariant: the removals of the types below t are stored.
+use mathlib.Core.Path.{◌≡◌, refl, sym, ap, ◌∙◌}
+use Prim.Native.Nat.{◌+◌, ◌*◌, ◌-◌, ◌≤◌}
+use native.Mathlib.Omega.{arith}
+use lib.ListN.{length, length-set}
+use borrow.Author.Rules.{rules}
+use Rattle.refusal.specs.Output.{put}
+use Rattle.laws.proofs.Puts.{put_none}
+use Rattle.change_lists.specs.Operations.{encode_ops}
+use Rattle.changes.specs.Loops.{gone_below}
+use Rattle.changes.proofs.Removals.{gone_start, gone_count, gone_skip, gone_bytes, gone_stored, gone_grows}
+use Rattle.changes.proofs.put_removals.Given as goal
+
+abbrev pub invariant-loop-t : goal.invariant-loop-t
+invariant-loop-t l = (l.t ≤ 256) × (length l.out ≡ length l.initial.out) × (l.to ≡ length (encode_ops (gone_below l.t l.marks)))
+    × (l.out ≡ put l.initial.out 0 (encode_ops (gone_below l.t l.marks))) × (l.to ≤ 3 * l.t)
+
+abbrev pub decreases-loop-t : goal.decreases-loop-t
+decreases-loop-t l = 256 - l.t

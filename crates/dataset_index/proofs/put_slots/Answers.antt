@@ -1,0 +1,44 @@
+-- `dataset_index::put_slots` meets its contract. The invariant: the types from t on, stored from at on, make of out what all of them make of it.
+use borrow.Author.Rules.{rules}
+use mathlib.Core.Path.{◌≡◌, refl, sym, ap, ◌∙◌}
+use native.Mathlib.Omega.{arith}
+use Prim.Native.Nat.{◌+◌, ◌-◌, ◌*◌, ◌≤◌}
+use lib.ListN.{length}
+use Rattle.refusal.specs.Output.{put}
+use Rattle.laws.proofs.Puts.{put_none, put_then}
+use Rattle.wire.proofs.Round.{length_bytes}
+use Rattle.dataset_index.specs.Loops.{slots_in}
+use Rattle.dataset_index.proofs.Slots.{slots_next, slots_end}
+use Rattle.dataset_index.proofs.put_slots.Goals as goal
+
+pub loop-t-init : goal.loop-t-init
+loop-t-init c = (search rules, refl, omega arith, refl)
+
+pub put_u16-middle-requires : goal.put_u16-middle-requires
+put_u16-middle-requires c = omega arith
+
+pub put_u16-at-requires : goal.put_u16-at-requires
+put_u16-at-requires c = omega (arith, c.put_u16-middle.ensures.0, c.put_u16-middle.auto)
+
+pub loop-t-preserved : goal.loop-t-preserved
+loop-t-preserved c =
+    let x = c.args.t1 in
+    let t = c.loop-t.t in
+    let inv = c.loop-t.invariant in (
+      search rules,
+      c.put_u16-at.auto.1.0 ∙ c.put_u16-middle.auto.1.0 ∙ inv.1,
+      omega (arith, c.put_u16-middle.ensures.0, c.put_u16-at.ensures.0),
+      put_then _ _ _ _ _ _ c.put_u16-at.ensures.1 (c.put_u16-at.ensures.0 ∙ ap (◌+◌ _) (sym (length_bytes 2 _)))
+          ∙ put_then _ _ _ _ _ _ c.put_u16-middle.ensures.1 (c.put_u16-middle.ensures.0 ∙ ap (◌+◌ _) (sym (length_bytes 2 _)))
+          ∙ ap (put _ _) (sym (slots_next x.count x.place t (256 - t) (256 - (t + 1)) (omega arith)))
+          ∙ inv.3,
+    )
+
+pub shape_of-out : goal.shape_of-out
+shape_of-out c = c.loop-t.invariant.1
+
+pub returns : goal.returns
+returns c =
+    let x = c.args.t1 in
+    let t = c.loop-t.t in
+    sym (put_none _ _) ∙ ap (put _ _) (sym (slots_end x.count x.place t (256 - t) (omega arith))) ∙ c.loop-t.invariant.3

@@ -1,0 +1,31 @@
+-- `diag::u32_in` meets its contract, by what was found and by what the decoder answered.
+use mathlib.Core.Path.{sym, ap, ◌∙◌}
+use native.Mathlib.Omega.{arith}
+use native.Mathlib.Nat.{add-sub_cancel_left}
+use Rattle.tlv_last.specs.Answers.{found_answer}
+use Rattle.wire.specs.Be.{answer32}
+use Rattle.diag.specs.Loops.{or_none}
+use Rattle.diag_values.proofs.Agree.{timeout_read}
+use Rattle.diag.proofs.Fields.{in_payload, read_by, read_none, none_32}
+use borrow.Author.Rules.{rules}
+use Rattle.diag.proofs.u32_in.Goals as goal
+
+pub overflow_add-end : goal.overflow_add-end
+overflow_add-end c = omega (arith, in_payload _ _ _ _ _ (ap found_answer c.in-At.is) c.requires)
+
+pub slice_bounds-read_u32-end : goal.slice_bounds-read_u32-end
+slice_bounds-read_u32-end c = omega (arith, in_payload _ _ _ _ _ (ap found_answer c.in-At.is) c.requires)
+
+pub returns-in-Value : goal.returns-in-Value
+unfolding or_none
+returns-in-Value c =
+    let found = ap found_answer c.in-At.is in
+    sym (ap (λ r. or_none (answer32 r)) c.in-Value.is) ∙ read_by _ _ _ _ _ _ _ found _ ((simp add-sub_cancel_left at c.read_u32.ensures) ∙ timeout_read _ _)
+
+pub returns-in_default-read_u32 : goal.returns-in_default-read_u32
+returns-in_default-read_u32 c =
+    let found = ap found_answer c.in-At.is in
+    none_32 c.read_u32.result c.in_default-read_u32.in_default-read_u32-own.keys2 ∙ read_by _ _ _ _ _ _ _ found _ ((simp add-sub_cancel_left at c.read_u32.ensures) ∙ timeout_read _ _)
+
+pub returns-in_default : goal.returns-in_default
+returns-in_default c = read_none _ _ _ c.args.e c.in_default.in_default-own.keys2

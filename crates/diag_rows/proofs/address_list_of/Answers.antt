@@ -1,0 +1,6 @@
+-- `diag_rows::address_list_of` meets its contract.
+use borrow.Author.Rules.{rules}
+use Rattle.diag_rows.proofs.address_list_of.Goals as goal
+
+pub returns : goal.returns
+returns c = simp c.u16_at-rloc16.ensures

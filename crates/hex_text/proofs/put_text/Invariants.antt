@@ -1,0 +1,17 @@
+-- `hex_text::put_text` meets its contract. The invariant: the text of the bytes from i on, stored from 2 * i on, makes of out what the whole text makes of it.
+use mathlib.Core.Path.{◌≡◌, refl, sym, ◌∙◌}
+use Prim.Native.Nat.{◌*◌, ◌-◌, ◌≤◌}
+use native.Mathlib.Omega.{arith}
+use lib.ListN.{length, drop, length-set}
+use borrow.Author.Rules.{rules}
+use Rattle.refusal.specs.Output.{put}
+use Rattle.hex_text.specs.HexText.{hex_text}
+use Rattle.hex_text.proofs.Texts.{text_next, text_end}
+use Rattle.hex_text.proofs.put_text.Given as goal
+
+abbrev pub invariant-loop-i : goal.invariant-loop-i
+invariant-loop-i l = (l.i ≤ length l.bytes) × (length l.out ≡ length l.initial.out)
+    × (put l.out (2 * l.i) (hex_text (drop l.i l.bytes)) ≡ put l.initial.out 0 (hex_text l.bytes))
+
+abbrev pub decreases-loop-i : goal.decreases-loop-i
+decreases-loop-i l = length l.bytes - l.i

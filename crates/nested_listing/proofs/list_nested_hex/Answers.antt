@@ -1,0 +1,22 @@
+-- `nested_listing::list_nested_hex` meets its contract: the text's refusal, or the answer for its bytes.
+use native.Mathlib.Omega.{arith}
+use borrow.Author.Rules.{rules}
+use Rattle.laws.proofs.Emits.{emit_refused}
+use Rattle.laws.proofs.Callers.{gave_inside}
+use Rattle.nested_listing.specs.Nested.{nested}
+use Rattle.listing.proofs.Hexes.{hex_given, hex_refused}
+use Rattle.nested_listing.proofs.list_nested_hex.Goals as goal
+
+pub slice_bounds-list_nested-end : goal.slice_bounds-list_nested-end
+slice_bounds-list_nested-end c = omega (arith, gave_inside _ _ _ _ (rw c.in-Bytes.is at c.decode.ensures))
+
+pub returns-in-Refused : goal.returns-in-Refused
+returns-in-Refused c = emit_refused _ _ _ _ _ (hex_refused nested _ _ _ _ _ _ (search rules) (rw c.in-Refused.is at c.decode.ensures))
+
+pub shape_of-out : goal.shape_of-out
+shape_of-out c = c.list_nested.auto.1.0
+
+pub returns-in-Bytes : goal.returns-in-Bytes
+returns-in-Bytes c =
+    let bytes = hex_given nested _ _ _ _ (rw c.in-Bytes.is at c.decode.ensures) in
+    rw bytes c.list_nested.ensures

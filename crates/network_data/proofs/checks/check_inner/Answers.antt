@@ -1,0 +1,33 @@
+-- `network_data::checks::check_inner` meets its contract. The invariant: checking what the walker has left, with c passed, gives the answer.
+-- The measure is what is left. Assumes nothing.
+use borrow.Author.Rules.{rules}
+use mathlib.Core.Path.{◌≡◌, refl, sym, ap, ◌∙◌}
+use lib.ListN.{length}
+use Rattle.network_framing.specs.Frame.{walk_in}
+use Rattle.network_data.specs.Answers.{checked_answer}
+use Rattle.network_data.specs.Rules.{check_in}
+use Rattle.network_framing.proofs.Walks.{turn_end, turn_cut}
+use Rattle.network_walker.proofs.Shifts.{left_less}
+use Rattle.network_data.proofs.Passes.{in_end, in_cut}
+use Rattle.network_data.proofs.Moved.{inner_more, inner_refused}
+use Rattle.network_data.proofs.checks.check_inner.Goals as goal
+
+pub returns-in-End : goal.returns-in-End
+returns-in-End c = sym (in_end _ _) ∙ ap (check_in _ _) (sym (turn_end _ _ _ _ c.first_tlv.ensures c.in-End.is)) ∙ c.loop-ty.invariant
+
+pub returns-in-Cut : goal.returns-in-Cut
+returns-in-Cut c =
+    c.refuse.ensures ∙ sym (in_cut _ _) ∙ ap (check_in _ _) (sym (turn_cut _ _ _ _ c.first_tlv.ensures c.in-Cut.is)) ∙ c.loop-ty.invariant
+
+pub loop-ty-smaller : goal.loop-ty-smaller
+loop-ty-smaller c = left_less _ _ c.first_tlv.ensures _ _ _ c.in-Item.is _ c.after_first-left.ensures
+
+pub loop-ty-preserved : goal.loop-ty-preserved
+loop-ty-preserved c =
+    let passed = sym (ap checked_answer c.in-Counted.is) ∙ c.inner_rule.ensures in
+    inner_more _ _ _ _ c.first_tlv.ensures _ _ _ c.in-Item.is _ c.after_first-left.ensures _ passed ∙ c.loop-ty.invariant
+
+pub returns-in-Refused : goal.returns-in-Refused
+returns-in-Refused c =
+    let stopped = sym (ap checked_answer c.in-Refused.is) ∙ c.inner_rule.ensures in
+    inner_refused _ _ _ _ c.first_tlv.ensures _ _ _ c.in-Item.is _ c.after_first-left.ensures _ _ _ stopped ∙ c.loop-ty.invariant

@@ -1,0 +1,15 @@
+-- `network_tables::prefixes::copy_bytes` meets its contract. The invariant: i bytes are copied, and zeros follow. Assumes nothing.
+use borrow.Author.Rules.{rules}
+use mathlib.Core.Path.{◌≡◌, refl, ap, ◌∙◌}
+use mathlib.Core.List.{◌++◌}
+use Prim.Native.Nat.{ℕ, ◌+◌, ◌-◌, ◌≤◌}
+use native.Mathlib.Omega.{arith}
+use lib.ListN.{length, take, drop, replicate, length-set}
+use Rattle.network_tables.proofs.Seeks.{pad_more, pad_all}
+use Rattle.network_tables.proofs.prefixes.copy_bytes.Given as goal
+
+abbrev pub invariant-loop-i : goal.invariant-loop-i
+invariant-loop-i l = (l.i ≤ l.n) × (length l.a ≡ 32) × (l.a ≡ take l.i (take l.n (drop l.at l.s)) ++ drop l.i (replicate 32 0))
+
+abbrev pub decreases-loop-i : goal.decreases-loop-i
+decreases-loop-i l = l.n - l.i

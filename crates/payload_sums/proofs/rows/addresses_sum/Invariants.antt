@@ -1,0 +1,15 @@
+-- `payload_sums::rows::addresses_sum` meets its contract. The invariant: what is summed so far is the sum of k addresses.
+use mathlib.Core.Path.{◌≡◌, refl}
+use Prim.Native.Nat.{◌-◌, ◌/◌, ◌≤◌}
+use native.Mathlib.Omega.{arith}
+use lib.ListN.{length}
+use Rattle.payload_sums.specs.Rows.{summed, address_at}
+use Rattle.payload_sums.proofs.Rowed.{summed_more, summed_done}
+use borrow.Author.Rules.{rules}
+use Rattle.payload_sums.proofs.rows.addresses_sum.Given as goal
+
+abbrev pub invariant-loop-k : goal.invariant-loop-k
+invariant-loop-k l = (l.rows ≡ length l.v / 16) × (l.k ≤ l.rows) × (l.n ≡ summed (address_at l.v) l.k)
+
+abbrev pub decreases-loop-k : goal.decreases-loop-k
+decreases-loop-k l = l.rows - l.k

@@ -1,0 +1,14 @@
+-- `payload_sums::rows::child_sum` meets its contract.
+use mathlib.Core.Path.{refl}
+use Rattle.value_sums.proofs.Adds.{adds}
+use Rattle.payload_sums.specs.Rows.{child_sum}
+use borrow.Author.Rules.{rules}
+use Rattle.payload_sums.proofs.rows.child_sum.Goals as goal
+
+pub returns : goal.returns
+unfolding child_sum
+returns c =
+    let n1 = adds c.plus-n.ensures refl refl in
+    let n2 = adds c.plus-n-2.ensures n1 refl in
+    let n3 = adds c.plus-n-3.ensures n2 refl in
+    adds c.plus.ensures n3 c.mode_sum.ensures

@@ -1,0 +1,25 @@
+-- `payload_sums::rows::routes_sum` meets its contract. The invariant: what is summed so far is the sum of k rows.
+use mathlib.Core.Path.{◌≡◌, refl, ◌∙◌}
+use Prim.Native.Nat.{◌-◌, ◌≤◌}
+use native.Mathlib.Omega.{arith}
+use lib.ListN.{get_or}
+use Rattle.payload_sums.specs.Rows.{summed, route_sum}
+use Rattle.payload_sums.proofs.Rowed.{summed_more, summed_done}
+use Rattle.route64.specs.Routes.{route_row}
+use borrow.Author.Rules.{rules}
+use Rattle.payload_sums.proofs.rows.routes_sum.Goals as goal
+
+pub loop-k-init : goal.loop-k-init
+unfolding summed
+loop-k-init c = (search rules, refl)
+
+pub loop-k-preserved : goal.loop-k-preserved
+loop-k-preserved c =
+    let l = c.loop-k in
+    (omega arith, summed_more _ _ _ _ _ l.invariant.1 c.plus-n.ensures c.route_sum.ensures)
+
+pub returns : goal.returns
+returns c =
+    let l = c.loop-k in
+    let all = c.loop-k-test.false in
+    summed_done _ _ _ _ l.invariant.1 (omega (arith, l.invariant.0)) ∙ c.requires.1

@@ -1,0 +1,11 @@
+-- `speed::speed_rewrite` meets its contract.
+use mathlib.Core.Path.{◌∙◌, ap}
+use Rattle.speed.specs.Code.{code}
+use Rattle.refusal.specs.Output.{Output}
+use borrow.Author.Rules.{rules}
+use Rattle.speed.proofs.speed_rewrite.Goals as goal
+
+pub returns : goal.returns
+returns c =
+    let wrote = c.rewrite.ensures in
+    (c.coded.ensures ∙ ap (λ (o : Output). code o.answer) wrote, ap (λ (o : Output). o.left) wrote)

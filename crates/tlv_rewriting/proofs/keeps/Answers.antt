@@ -1,0 +1,8 @@
+-- `tlv_rewriting::keeps` meets its contract.
+use Rattle.tlv_rewriting.specs.Rewrite.{keeps_of}
+use borrow.Author.Rules.{rules}
+use Rattle.tlv_rewriting.proofs.keeps.Goals as goal
+
+pub returns-in-Without : goal.returns-in-Without
+unfolding keeps_of
+returns-in-Without c = rw c.in-Without.is

@@ -1,0 +1,22 @@
+-- `utf8::is_ascii` meets its contract. The invariant: what is known so far, and the bytes from i on, say what all say.
+use mathlib.Core.Path.{◌≡◌, refl, sym, ap, ◌∙◌}
+use mathlib.Core.Bool.{Bool, ◌&&◌, and-true}
+use Prim.Native.Nat.{◌≤◌, ◌-◌}
+use lib.ListN.{length, drop}
+use borrow.Author.Rules.{rules}
+use Rattle.utf8.specs.Chars.{all_one}
+use Rattle.utf8.proofs.Places.{one_next, one_end}
+use Rattle.utf8.proofs.is_ascii.Goals as goal
+
+pub loop-i-init : goal.loop-i-init
+loop-i-init c = (search rules, refl)
+
+pub loop-i-preserved : goal.loop-i-preserved
+loop-i-preserved c =
+    let l = c.loop-i in
+    (search rules, one_next _ _ l.good c.loop-i-test.true ∙ l.invariant.1)
+
+pub returns : goal.returns
+returns c =
+    let l = c.loop-i in
+    sym (and-true l.good) ∙ ap (λ (b : Bool). l.good && b) (sym (one_end _ _ c.loop-i-test.false)) ∙ l.invariant.1

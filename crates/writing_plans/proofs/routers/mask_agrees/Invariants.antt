@@ -1,0 +1,17 @@
+-- `writing_plans::routers::mask_agrees` meets its contract. The invariant: the rows from n on are the routers that are to come where all the rows are the mask's.
+use mathlib.Core.Path.{◌≡◌, sym, ap, ◌∙◌}
+use mathlib.Core.List.{◌∷◌}
+use Prim.Native.Nat.{ℕ, ◌+◌, ◌-◌, ◌*◌, ◌≤◌, ◌<◌}
+use native.Mathlib.Omega.{arith}
+use Rattle.diag_rules.proofs.Bits.{top, to_come, to_come_first, to_come_take, to_come_next, to_come_end}
+use Rattle.value_writing.specs.Fits.{mask_agrees}
+use Rattle.record_writing.specs.Lent.{route_used}
+use Rattle.writing_plans.proofs.Routing.{mask_small, full_rows, mask_byte, agree, agree_start, agree_end, agree_short, agree_other, agree_hit}
+use borrow.Author.Rules.{rules}
+use Rattle.writing_plans.proofs.routers.mask_agrees.Given as goal
+
+abbrev pub invariant-loop-left : goal.invariant-loop-left
+invariant-loop-left l = (l.j < 8) × (l.left < 256) × (l.n ≤ l.t.count) × (agree l.t l.n (to_come (0 ∷ l.t.mask) l.j l.left) ≡ mask_agrees (route_used l.t))
+
+abbrev pub decreases-loop-left : goal.decreases-loop-left
+decreases-loop-left l = (8 - l.j) * 256 + l.left
