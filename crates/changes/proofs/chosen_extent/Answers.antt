@@ -15,6 +15,7 @@ use Rattle.change_lists.proofs.Places.{turn_none, set_within, removal_inside, se
 use Rattle.changes.proofs.Turns.{chosen_from, chosen_start, chosen_end, chosen_set, chosen_not, chosen_removal}
 use Rattle.tlv_writing.proofs.Several.{encode_none}
 use Rattle.changes.proofs.Writes.{all_length, extent_is}
+use borrow.Enum.Refused.{opened}
 use Rattle.changes.proofs.chosen_extent.Goals as goal
 
 pub loop-ty-init : goal.loop-ty-init
@@ -33,7 +34,7 @@ pub overflow_add-bytes : goal.overflow_add-bytes
 overflow_add-bytes c =
     let inside = set_within _ _ _ c.operation_at.ensures _ _ _ c.in-Set.is in
     let n = c.in-Set.len in
-    omega (arith, inside, c.entry_size_lem.ensures ∙ entry_size_lem n (omega arith), size_bound n)
+    omega (arith, inside, c.entry_size-bytes.ensures ∙ entry_size_lem n (omega arith), size_bound n)
 
 pub overflow_add-entries : goal.overflow_add-entries
 overflow_add-entries c = omega (arith, set_within _ _ _ c.operation_at.ensures _ _ _ c.in-Set.is)
@@ -48,7 +49,7 @@ loop-ty-preserved-then-marks-ty c =
     let n = c.in-Set.len in
     let a = c.args in
     let more = chosen_set a.t2 _ _ _ _ _ _ (set_ops _ _ _ found _ _ _ c.in-Set.is) c.if-marks-ty.true in
-    omega (arith, size_bound n, all_length a.list.now _ _ n _ _ more inside.1, ap length more, c.entry_size_lem.ensures ∙ entry_size_lem n (omega arith))
+    omega (arith, size_bound n, all_length a.list.now _ _ n _ _ more inside.1, ap length more, c.entry_size-bytes.ensures ∙ entry_size_lem n (omega arith))
 
 pub loop-ty-smaller-else-marks-ty : goal.loop-ty-smaller-else-marks-ty
 loop-ty-smaller-else-marks-ty c = omega (arith, set_within _ _ _ c.operation_at.ensures _ _ _ c.in-Set.is)
@@ -77,7 +78,7 @@ loop-ty-preserved c =
 pub returns-in_default : goal.returns-in_default
 returns-in_default c =
     let a = c.args in
-    let none = chosen_end a.t2 a.base _ _ (turn_none _ _ _ c.operation_at.ensures c.in_default.in_default-own.keys3) in
+    let none = chosen_end a.t2 a.base _ _ (turn_none _ _ _ c.operation_at.ensures (opened c.in_default.in_default-own.keys3)) in
     let bytes = ap length (ap encode_all none ∙ encode_none) in
     let entries = ap length none in
     (extent_is _ _ (chosen_from a.t2 a.base a.list.now 0) (omega arith) (omega arith) ∙ ap extent_of (chosen_start _ _ _), omega arith, omega arith)

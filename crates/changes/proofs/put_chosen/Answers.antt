@@ -13,6 +13,7 @@ use Rattle.changes.specs.Loops.{encode_sets}
 use Rattle.change_lists.proofs.Places.{turn_none, set_within, removal_inside, set_ops, removal_ops}
 use Rattle.changes.proofs.Turns.{chosen_from, chosen_start, chosen_end, chosen_set, chosen_not, chosen_removal}
 use Rattle.changes.proofs.Writes.{sets_none, sets_more, sets_length_more}
+use borrow.Enum.Refused.{opened}
 use Rattle.changes.proofs.put_chosen.Goals as goal
 
 pub loop-ty-init : goal.loop-ty-init
@@ -94,7 +95,7 @@ shape_of-out-in_default c = c.loop-ty.invariant.1
 pub returns-in_default : goal.returns-in_default
 returns-in_default c =
     let a = c.args in
-    let none = ap (encode_sets a.marked) (chosen_end a.t2 a.base _ _ (turn_none _ _ _ c.operation_at.ensures c.in_default.in_default-own.keys3)) ∙ sets_none _ in
+    let none = ap (encode_sets a.marked) (chosen_end a.t2 a.base _ _ (turn_none _ _ _ c.operation_at.ensures (opened c.in_default.in_default-own.keys3))) ∙ sets_none _ in
     let all = ap (encode_sets a.marked) (chosen_start a.t2 a.base a.list.now) in (
       omega (arith, ap length none, ap length all, c.loop-ty.invariant.2),
       sym (put_none _ _) ∙ ap (put _ _) (sym none) ∙ c.loop-ty.invariant.3 ∙ ap (put _ _) all,

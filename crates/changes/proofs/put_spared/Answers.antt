@@ -15,6 +15,7 @@ use Rattle.tlv.proofs.Walks.{turn_entries, turn_none, turn_inside}
 use Rattle.tlv_writing.proofs.Encodes.{entry_placed}
 use Rattle.tlv_writing.proofs.Several.{encode_none, encode_more, size_part}
 use Rattle.changes.proofs.Writes.{all_length, spared_from, spared_start, spared_end, spared_keep, spared_skip}
+use borrow.Enum.Refused.{opened}
 use Rattle.changes.proofs.put_spared.Goals as goal
 
 pub loop-ty-init : goal.loop-ty-init
@@ -70,7 +71,7 @@ shape_of-out-in_default c = c.loop-ty.invariant.1
 pub returns-in_default : goal.returns-in_default
 returns-in_default c =
     let a = c.args in
-    let none = ap encode_all (spared_end a.t2 _ _ (turn_none _ _ _ c.frame_at.ensures c.in_default.in_default-own.keys2)) ∙ encode_none in
+    let none = ap encode_all (spared_end a.t2 _ _ (turn_none _ _ _ c.frame_at.ensures (opened c.in_default.in_default-own.keys2))) ∙ encode_none in
     let all = ap encode_all (spared_start a.t2 a.s.now) in (
       omega (arith, ap length none, ap length all),
       sym (put_none _ _) ∙ ap (put _ _) (sym none) ∙ c.loop-ty.invariant.3 ∙ ap (put _ _) all,

@@ -14,6 +14,7 @@ use Rattle.tlv_writing.proofs.Encodes.{size_bound, entry_size_lem}
 use Rattle.changes.specs.Loops.{extent_of}
 use Rattle.tlv_writing.proofs.Several.{encode_none}
 use Rattle.changes.proofs.Writes.{all_length, extent_is, spared_from, spared_start, spared_end, spared_keep, spared_skip}
+use borrow.Enum.Refused.{opened}
 use Rattle.changes.proofs.spared_extent.Goals as goal
 
 pub loop-ty-init : goal.loop-ty-init
@@ -26,7 +27,7 @@ pub overflow_add-bytes : goal.overflow_add-bytes
 overflow_add-bytes c =
     let inside = turn_inside _ _ _ c.frame_at.ensures _ _ _ c.in-Entry.is in
     let n = c.in-Entry.len in
-    omega (arith, inside, c.entry_size_lem.ensures ∙ entry_size_lem n (omega arith), size_bound n)
+    omega (arith, inside, c.entry_size-bytes.ensures ∙ entry_size_lem n (omega arith), size_bound n)
 
 pub overflow_add-entries : goal.overflow_add-entries
 overflow_add-entries c = omega (arith, turn_inside _ _ _ c.frame_at.ensures _ _ _ c.in-Entry.is)
@@ -41,7 +42,7 @@ loop-ty-preserved-then-marks-ty-eq0 c =
     let n = c.in-Entry.len in
     let a = c.args in
     let keep = spared_keep a.t2 _ _ _ _ n (turn_entries _ _ _ found _ _ _ c.in-Entry.is) c.if-marks-ty-eq0.true in
-    omega (arith, size_bound n, all_length a.s.now _ _ n _ _ keep inside.1, ap length keep, c.entry_size_lem.ensures ∙ entry_size_lem n (omega arith))
+    omega (arith, size_bound n, all_length a.s.now _ _ n _ _ keep inside.1, ap length keep, c.entry_size-bytes.ensures ∙ entry_size_lem n (omega arith))
 
 pub loop-ty-smaller : goal.loop-ty-smaller
 loop-ty-smaller c = omega (arith, turn_inside _ _ _ c.frame_at.ensures _ _ _ c.in-Entry.is)
@@ -56,7 +57,7 @@ loop-ty-preserved c =
 pub returns-in_default : goal.returns-in_default
 returns-in_default c =
     let a = c.args in
-    let none = spared_end a.t2 _ _ (turn_none _ _ _ c.frame_at.ensures c.in_default.in_default-own.keys2) in
+    let none = spared_end a.t2 _ _ (turn_none _ _ _ c.frame_at.ensures (opened c.in_default.in_default-own.keys2)) in
     let bytes = ap length (ap encode_all none ∙ encode_none) in
     let entries = ap length none in
     (extent_is _ _ (spared_from a.t2 a.s.now 0) (omega arith) (omega arith) ∙ ap extent_of (spared_start _ _), omega arith, omega arith)

@@ -6,6 +6,7 @@ use Rattle.diag_entries.specs.Lists.{child_list}
 use Rattle.diag_entries.proofs.Checks.{checked_given, checked_refused}
 use Rattle.child_lists.proofs.Lists.{child_found, child_none}
 use borrow.Author.Rules.{rules}
+use borrow.Enum.Refused.{opened}
 use Rattle.child_lists.proofs.child_list.Goals as goal
 
 pub returns-in-Refused : goal.returns-in-Refused
@@ -25,4 +26,4 @@ returns-in-At c =
 pub returns-in_default : goal.returns-in_default
 returns-in_default c =
     let fine = checked_given _ _ (sym (ap counted_answer c.in-Entries.is) ∙ c.check_values.ensures) in
-    child_none _ _ fine.0 fine.1 c.nth_child_list.result c.in_default.in_default-own.keys2 c.nth_child_list.ensures
+    child_none _ _ fine.0 fine.1 c.nth_child_list.result (opened c.in_default.in_default-own.keys2) c.nth_child_list.ensures

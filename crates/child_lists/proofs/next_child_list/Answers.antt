@@ -12,6 +12,7 @@ use Rattle.refusal.specs.Numbered.{nth}
 use Rattle.diag_entries.specs.Parts.{all_of}
 use Rattle.child_lists.specs.From.{entries_from}
 use Rattle.child_lists.proofs.Lists.{from_there, next_here, next_past, next_none}
+use borrow.Enum.Refused.{opened}
 use Rattle.child_lists.proofs.next_child_list.Goals as goal
 
 pub loop-ty-init : goal.loop-ty-init
@@ -37,4 +38,4 @@ loop-ty-preserved c =
 
 pub returns-in_default : goal.returns-in_default
 returns-in_default c =
-    next_none _ (turn_none _ _ _ c.frame_at.ensures c.in_default.in_default-own.keys2) ∙ ap (λ l. on_given spot (nth l 0)) c.loop-ty.invariant
+    next_none _ (turn_none _ _ _ c.frame_at.ensures (opened c.in_default.in_default-own.keys2)) ∙ ap (λ l. on_given spot (nth l 0)) c.loop-ty.invariant

@@ -14,6 +14,7 @@ use Rattle.refusal.specs.Numbered.{nth}
 use Rattle.laws.proofs.Numbered.{nth_empty}
 use Rattle.diag_entries.specs.Parts.{all_of}
 use Rattle.child_lists.proofs.Lists.{follows, none_left, nth_here, nth_past}
+use borrow.Enum.Refused.{opened}
 use Rattle.child_lists.proofs.nth_child_list.Goals as goal
 
 pub loop-place-init : goal.loop-place-init
@@ -42,5 +43,5 @@ loop-place-preserved c =
 
 pub returns-in_default : goal.returns-in_default
 returns-in_default c =
-    let none = none_left _ _ c.next_child_list.result c.in_default.in_default-own.keys2 c.next_child_list.ensures in
+    let none = none_left _ _ c.next_child_list.result (opened c.in_default.in_default-own.keys2) c.next_child_list.ensures in
     ap (on_given spot) (sym (nth_empty _ _ none) ∙ c.loop-place.invariant.1)

@@ -14,6 +14,7 @@ use Rattle.tlv.proofs.Walks.{from, from_start, turn_end, turn_cut, turn_entry, t
 use Rattle.tlv.proofs.Tally.{tally, tally_start, tally_at, tally_off, tally_end, tally_cut}
 use Rattle.dataset_index.proofs.Tables.{Finding, find_start, find_more, find_end}
 use Rattle.dataset_index.proofs.collect.Goals as goal
+use Rattle.dataset_index.proofs.collect.Goals.{then-n-eq-MAX_ENTRIES, else-n-eq-MAX_ENTRIES}
 
 pub loop-ty-init : goal.loop-ty-init
 unfolding count framed
@@ -48,10 +49,10 @@ loop-ty-preserved c =
     let goes_on = ap (tally _ _ _) (sym entry) ∙ c.loop-ty.invariant.2 in (
       inside.1,
       omega (arith, inside),
-      ⊎_elim
-          (λ w. rw w.1 (sym (tally_at _ _ _ _ w.0.taken _) ∙ goes_on))
-          (λ w. rw w.1 (sym (tally_off _ _ _ _ w.0.left _) ∙ goes_on))
-          c.if-n-eq-MAX_ENTRIES.branch,
+      elim c.if-n-eq-MAX_ENTRIES.branch [
+        then-n-eq-MAX_ENTRIES w ↦ rw w.over-is (sym (tally_at _ _ _ _ w.if-n-eq-MAX_ENTRIES.true _) ∙ goes_on)
+      | else-n-eq-MAX_ENTRIES w ↦ rw w.over-is (sym (tally_off _ _ _ _ w.if-n-eq-MAX_ENTRIES.false _) ∙ goes_on)
+      ],
       find_more _ _ _ _ _ _ _ _ _ _ (omega (arith, inside)) entries c.loop-ty.invariant.3 small,
     )
 

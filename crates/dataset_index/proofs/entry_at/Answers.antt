@@ -1,6 +1,7 @@
 -- `dataset_index::entry_at` meets its contract. Assumes nothing.
 use Rattle.dataset_index.proofs.Queries.{entry_hit, entry_miss, entry_none}
 use borrow.Author.Rules.{rules}
+use borrow.Enum.Refused.{opened}
 use Rattle.dataset_index.proofs.entry_at.Goals as goal
 
 pub returns-then-t-ty : goal.returns-then-t-ty
@@ -11,4 +12,4 @@ returns-else-t-ty c = rw c.wrong_index.ensures (entry_miss _ _ _ _ c.frame_at.en
 
 pub returns-in_default : goal.returns-in_default
 returns-in_default c =
-    rw c.wrong_index-in_default.ensures (entry_none _ _ _ c.frame_at.result c.frame_at.ensures c.in_default.in_default-own.keys2)
+    rw c.wrong_index-in_default.ensures (entry_none _ _ _ c.frame_at.result c.frame_at.ensures (opened c.in_default.in_default-own.keys2))

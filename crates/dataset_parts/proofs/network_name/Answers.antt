@@ -8,6 +8,7 @@ use Rattle.dataset_parts.specs.Parts.{name_entry}
 use Rattle.dataset.proofs.Finds.{found_inside, none_found, found_refused}
 use Rattle.dataset_parts.proofs.Keeps.{name_kept, name_refused}
 use borrow.Author.Rules.{rules}
+use borrow.Enum.Refused.{opened}
 use Rattle.dataset_parts.proofs.network_name.Goals as goal
 
 pub overflow_add-end : goal.overflow_add-end
@@ -24,7 +25,7 @@ returns-in-Refused-check_name c =
 pub returns-in_default : goal.returns-in_default
 returns-in_default c =
     let told = simp add-sub_cancel_left at c.check_name.ensures in
-    name_kept _ _ c.last_entry.ensures _ _ _ c.in-At.is c.check_name.result told c.in_default.in_default-own.keys2
+    name_kept _ _ c.last_entry.ensures _ _ _ c.in-At.is c.check_name.result told (opened c.in_default.in_default-own.keys2)
 
 pub returns-in-Absent : goal.returns-in-Absent
 unfolding name_entry

@@ -7,6 +7,7 @@ use Rattle.connectivity.specs.Answers.{connectivity_answer}
 use Rattle.diag.specs.Loops.{or_none}
 use Rattle.diag.proofs.Fields.{in_payload, read_by, read_none, none_connectivity}
 use borrow.Author.Rules.{rules}
+use borrow.Enum.Refused.{opened}
 use Rattle.diag.proofs.connectivity_in.Goals as goal
 
 pub overflow_add-end : goal.overflow_add-end
@@ -24,7 +25,7 @@ returns-in-Value c =
 pub returns-in_default-decode_connectivity : goal.returns-in_default-decode_connectivity
 returns-in_default-decode_connectivity c =
     let found = ap found_answer c.in-At.is in
-    none_connectivity c.decode_connectivity.result c.in_default-decode_connectivity.in_default-decode_connectivity-own.keys2 ∙ read_by _ _ _ _ _ _ _ found _ (simp add-sub_cancel_left at c.decode_connectivity.ensures)
+    none_connectivity c.decode_connectivity.result (opened c.in_default-decode_connectivity.in_default-decode_connectivity-own.keys2) ∙ read_by _ _ _ _ _ _ _ found _ (simp add-sub_cancel_left at c.decode_connectivity.ensures)
 
 pub returns-in_default : goal.returns-in_default
-returns-in_default c = read_none _ _ _ c.args.e c.in_default.in_default-own.keys2
+returns-in_default c = read_none _ _ _ c.args.e (opened c.in_default.in_default-own.keys2)

@@ -8,6 +8,7 @@ use borrow.Author.Rules.{rules}
 use Rattle.tlv.specs.Entries.{Framing}
 use Rattle.tlv.proofs.Walks.{from, from_start, turn_entries, turn_none, turn_inside}
 use Rattle.diag.proofs.Finds.{Finding, find_start, find_more, find_skip, find_end}
+use borrow.Enum.Refused.{opened}
 use Rattle.diag.proofs.find_all.Goals as goal
 
 pub loop-ty-init : goal.loop-ty-init
@@ -38,4 +39,4 @@ loop-ty-preserved c =
     (inside.1, find_skip _ _ _ _ _ _ _ _ _ _ _ _ inside.1 (omega (arith, inside)) entries c.loop-ty.invariant.1 c.if-t-lt32.false)
 
 pub returns-in_default : goal.returns-in_default
-returns-in_default c = find_end _ _ _ _ (turn_none _ _ _ c.frame_at.ensures c.in_default.in_default-own.keys2) c.loop-ty.invariant.1
+returns-in_default c = find_end _ _ _ _ (turn_none _ _ _ c.frame_at.ensures (opened c.in_default.in_default-own.keys2)) c.loop-ty.invariant.1

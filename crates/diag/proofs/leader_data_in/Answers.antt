@@ -7,6 +7,7 @@ use Rattle.diag_values.specs.Answers.{leader_answer}
 use Rattle.diag.specs.Loops.{or_none}
 use Rattle.diag.proofs.Fields.{in_payload, read_by, read_none, none_leader}
 use borrow.Author.Rules.{rules}
+use borrow.Enum.Refused.{opened}
 use Rattle.diag.proofs.leader_data_in.Goals as goal
 
 pub overflow_add-end : goal.overflow_add-end
@@ -24,7 +25,7 @@ returns-in-Value c =
 pub returns-in_default-decode_leader_data : goal.returns-in_default-decode_leader_data
 returns-in_default-decode_leader_data c =
     let found = ap found_answer c.in-At.is in
-    none_leader c.decode_leader_data.result c.in_default-decode_leader_data.in_default-decode_leader_data-own.keys2 ∙ read_by _ _ _ _ _ _ _ found _ (simp add-sub_cancel_left at c.decode_leader_data.ensures)
+    none_leader c.decode_leader_data.result (opened c.in_default-decode_leader_data.in_default-decode_leader_data-own.keys2) ∙ read_by _ _ _ _ _ _ _ found _ (simp add-sub_cancel_left at c.decode_leader_data.ensures)
 
 pub returns-in_default : goal.returns-in_default
-returns-in_default c = read_none _ _ _ c.args.e c.in_default.in_default-own.keys2
+returns-in_default c = read_none _ _ _ c.args.e (opened c.in_default.in_default-own.keys2)

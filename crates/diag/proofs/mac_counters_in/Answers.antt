@@ -7,6 +7,7 @@ use Rattle.diag_values.specs.Answers.{counters_answer}
 use Rattle.diag.specs.Loops.{or_none}
 use Rattle.diag.proofs.Fields.{in_payload, read_by, read_none, none_counters}
 use borrow.Author.Rules.{rules}
+use borrow.Enum.Refused.{opened}
 use Rattle.diag.proofs.mac_counters_in.Goals as goal
 
 pub overflow_add-end : goal.overflow_add-end
@@ -24,7 +25,7 @@ returns-in-Value c =
 pub returns-in_default-decode_mac_counters : goal.returns-in_default-decode_mac_counters
 returns-in_default-decode_mac_counters c =
     let found = ap found_answer c.in-At.is in
-    none_counters c.decode_mac_counters.result c.in_default-decode_mac_counters.in_default-decode_mac_counters-own.keys2 ∙ read_by _ _ _ _ _ _ _ found _ (simp add-sub_cancel_left at c.decode_mac_counters.ensures)
+    none_counters c.decode_mac_counters.result (opened c.in_default-decode_mac_counters.in_default-decode_mac_counters-own.keys2) ∙ read_by _ _ _ _ _ _ _ found _ (simp add-sub_cancel_left at c.decode_mac_counters.ensures)
 
 pub returns-in_default : goal.returns-in_default
-returns-in_default c = read_none _ _ _ c.args.e c.in_default.in_default-own.keys2
+returns-in_default c = read_none _ _ _ c.args.e (opened c.in_default.in_default-own.keys2)

@@ -6,6 +6,7 @@ use Rattle.tlv_last.specs.Answers.{found_answer}
 use Rattle.network_data.specs.Answers.{checked_answer}
 use Rattle.diag.proofs.Fields.{in_payload, network_counted, network_refused, network_none}
 use borrow.Author.Rules.{rules}
+use borrow.Enum.Refused.{opened}
 use Rattle.diag.proofs.network_data_in.Goals as goal
 
 pub overflow_add-end : goal.overflow_add-end
@@ -25,4 +26,4 @@ returns-in-Refused c =
     network_refused _ _ _ _ _ found _ _ _ (sym (ap checked_answer c.in-Refused.is) ∙ (simp add-sub_cancel_left at c.check.ensures))
 
 pub returns-in_default : goal.returns-in_default
-returns-in_default c = network_none _ c.args.e c.in_default.in_default-own.keys2
+returns-in_default c = network_none _ c.args.e (opened c.in_default.in_default-own.keys2)

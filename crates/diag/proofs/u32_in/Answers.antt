@@ -8,6 +8,7 @@ use Rattle.diag.specs.Loops.{or_none}
 use Rattle.diag_values.proofs.Agree.{timeout_read}
 use Rattle.diag.proofs.Fields.{in_payload, read_by, read_none, none_32}
 use borrow.Author.Rules.{rules}
+use borrow.Enum.Refused.{opened}
 use Rattle.diag.proofs.u32_in.Goals as goal
 
 pub overflow_add-end : goal.overflow_add-end
@@ -25,7 +26,7 @@ returns-in-Value c =
 pub returns-in_default-read_u32 : goal.returns-in_default-read_u32
 returns-in_default-read_u32 c =
     let found = ap found_answer c.in-At.is in
-    none_32 c.read_u32.result c.in_default-read_u32.in_default-read_u32-own.keys2 ∙ read_by _ _ _ _ _ _ _ found _ ((simp add-sub_cancel_left at c.read_u32.ensures) ∙ timeout_read _ _)
+    none_32 c.read_u32.result (opened c.in_default-read_u32.in_default-read_u32-own.keys2) ∙ read_by _ _ _ _ _ _ _ found _ ((simp add-sub_cancel_left at c.read_u32.ensures) ∙ timeout_read _ _)
 
 pub returns-in_default : goal.returns-in_default
-returns-in_default c = read_none _ _ _ c.args.e c.in_default.in_default-own.keys2
+returns-in_default c = read_none _ _ _ c.args.e (opened c.in_default.in_default-own.keys2)

@@ -7,6 +7,7 @@ use Rattle.diag_values.specs.Answers.{answer8}
 use Rattle.diag.specs.Loops.{or_none}
 use Rattle.diag.proofs.Fields.{in_payload, read_by, read_none, none_8}
 use borrow.Author.Rules.{rules}
+use borrow.Enum.Refused.{opened}
 use Rattle.diag.proofs.u8_in.Goals as goal
 
 pub overflow_add-end : goal.overflow_add-end
@@ -24,7 +25,7 @@ returns-in-Value c =
 pub returns-in_default-read_u8 : goal.returns-in_default-read_u8
 returns-in_default-read_u8 c =
     let found = ap found_answer c.in-At.is in
-    none_8 c.read_u8.result c.in_default-read_u8.in_default-read_u8-own.keys2 ∙ read_by _ _ _ _ _ _ _ found _ (simp add-sub_cancel_left at c.read_u8.ensures)
+    none_8 c.read_u8.result (opened c.in_default-read_u8.in_default-read_u8-own.keys2) ∙ read_by _ _ _ _ _ _ _ found _ (simp add-sub_cancel_left at c.read_u8.ensures)
 
 pub returns-in_default : goal.returns-in_default
-returns-in_default c = read_none _ _ _ c.args.e c.in_default.in_default-own.keys2
+returns-in_default c = read_none _ _ _ c.args.e (opened c.in_default.in_default-own.keys2)

@@ -12,6 +12,7 @@ use Rattle.tlv.proofs.Walks.{from, turn_entries, turn_none, turn_inside}
 use Rattle.diag_rules.specs.Answers.{judged_answer}
 use Rattle.diag_entries.specs.Checked.{checked}
 use Rattle.diag_entries.proofs.Checks.{verdict, verdict_next, verdict_stop, verdict_end, check_start, check_refused}
+use borrow.Enum.Refused.{opened}
 use Rattle.diag_entries.proofs.check_values.Goals as goal
 
 pub returns-in-Refused : goal.returns-in-Refused
@@ -44,4 +45,5 @@ loop-ty-preserved c =
     )
 
 pub returns-in_default : goal.returns-in_default
-returns-in_default c = sym (verdict_end _ _ (turn_none _ _ _ c.frame_at.ensures c.in_default.in_default-own.keys2)) ∙ c.loop-ty.invariant.1
+returns-in_default c =
+    sym (verdict_end _ _ (turn_none _ _ _ c.frame_at.ensures (opened c.in_default.in_default-own.keys2))) ∙ c.loop-ty.invariant.1

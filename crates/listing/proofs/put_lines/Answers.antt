@@ -10,6 +10,7 @@ use Rattle.text_writing.proofs.Lays.{laid_none, laid_rest, laid_length}
 use Rattle.listing.specs.Listing.{entry_lines}
 use Rattle.listing.proofs.Lines.{lines_start, lines_turn, lines_end}
 use borrow.Author.Rules.{rules}
+use borrow.Enum.Refused.{opened}
 use Rattle.listing.proofs.put_lines.Goals as goal
 
 pub loop-ty-init : goal.loop-ty-init
@@ -35,5 +36,5 @@ shape_of-out-in_default c = c.loop-ty.invariant.1
 
 pub returns-in_default : goal.returns-in_default
 returns-in_default c =
-    let none = turn_none _ _ _ c.frame_at.ensures c.in_default.in_default-own.keys2 in
+    let none = turn_none _ _ _ c.frame_at.ensures (opened c.in_default.in_default-own.keys2) in
     laid_none _ _ ∙ ap (laid _ _) (lines_end _ _ none) ∙ c.loop-ty.invariant.2

@@ -10,4 +10,4 @@ returns-then-need-out c = rw c.refuse.ensures (lays_no_room _ _ _ refl _ _ _ c.P
 
 pub returns : goal.returns
 returns c =
-    lays_done _ _ _ refl _ _ _ c.Put-refused.ensures (omega (arith, c.well-formed.1.1.0)) c.if-need-out.false _ _ c.put_refused.ensures
+    lays_done _ _ _ refl _ _ _ c.Put-refused.ensures (omega (arith, c.well_formed.1.1.0)) c.if-need-out.false _ _ c.put_refused.ensures

@@ -11,6 +11,7 @@ use Rattle.tlv.proofs.Walks.{from, turn_entries, turn_inside, turn_none}
 use Rattle.pairing.specs.Loops.{own_answer, lists_of, keys_of}
 use Rattle.pairing.proofs.Tallies.{Counting, counting_start, counting_more, counting_other, counting_end, counting_same, Placing, placing_start, placing_more, placing_other, placing_end, placing_same}
 use Rattle.pairing.proofs.Ids.{lists_start, lists_hit, lists_miss, lists_none, keys_own, keys_other, keys_none}
+use borrow.Enum.Refused.{opened}
 use Rattle.pairing.proofs.count_lists.Goals as goal
 
 pub loop-ty-init : goal.loop-ty-init
@@ -132,5 +133,5 @@ loop-ty-preserved c =
 pub returns-in_default : goal.returns-in_default
 returns-in_default c =
     let l = c.loop-ty in
-    let none = keys_none _ _ (lists_none _ (turn_none _ _ _ c.frame_at.ensures c.in_default.in_default-own.keys2)) in
+    let none = keys_none _ _ (lists_none _ (turn_none _ _ _ c.frame_at.ensures (opened c.in_default.in_default-own.keys2))) in
     (counting_end _ _ _ _ none l.invariant.1, placing_end _ _ _ _ none l.invariant.0)

@@ -12,6 +12,7 @@ use Rattle.tlv.specs.Limits.{count, framed}
 use Rattle.tlv.proofs.Walks.{from, turn_end, turn_cut, turn_entry, turn_inside}
 use Rattle.tlv.proofs.Tally.{tally, tally_start, tally_at, tally_off, tally_end, tally_cut}
 use Rattle.tlv.proofs.count_entries.Goals as goal
+use Rattle.tlv.proofs.count_entries.Goals.{then-n-eq-MAX_ENTRIES, else-n-eq-MAX_ENTRIES}
 
 pub returns-then-s-gt-MAX_BYTES : goal.returns-then-s-gt-MAX_BYTES
 unfolding count framed
@@ -52,8 +53,8 @@ loop-start-preserved c =
     let goes_on = ap (tally _ _ _) (sym entry) ∙ c.loop-start.invariant.2 in (
       inside.1,
       omega (arith, inside),
-      ⊎_elim
-          (λ w. rw w.1 (sym (tally_at _ _ _ _ w.0.taken _) ∙ goes_on))
-          (λ w. rw w.1 (sym (tally_off _ _ _ _ w.0.left _) ∙ goes_on))
-          c.if-n-eq-MAX_ENTRIES.branch,
+      elim c.if-n-eq-MAX_ENTRIES.branch [
+        then-n-eq-MAX_ENTRIES w ↦ rw w.over-is (sym (tally_at _ _ _ _ w.if-n-eq-MAX_ENTRIES.true _) ∙ goes_on)
+      | else-n-eq-MAX_ENTRIES w ↦ rw w.over-is (sym (tally_off _ _ _ _ w.if-n-eq-MAX_ENTRIES.false _) ∙ goes_on)
+      ],
     )

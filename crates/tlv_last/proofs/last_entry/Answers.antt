@@ -11,6 +11,7 @@ use Rattle.tlv_last.specs.Answers.{found_answer}
 use Rattle.tlv.proofs.Walks.{from, turn_entries, turn_none, turn_inside}
 use Rattle.tlv.proofs.Tally.{counted_given, counted_refused}
 use Rattle.tlv_last.proofs.Lasts.{last_spot_of, spot_then, last_turn, last_none}
+use borrow.Enum.Refused.{opened}
 use Rattle.tlv_last.proofs.last_entry.Goals as goal
 
 pub returns-in-Refused : goal.returns-in-Refused
@@ -38,5 +39,5 @@ loop-t-preserved c =
 
 pub returns-in_default : goal.returns-in_default
 returns-in_default c =
-    let none = turn_none _ _ _ c.frame_at.ensures c.in_default.in_default-own.keys2 in
+    let none = turn_none _ _ _ c.frame_at.ensures (opened c.in_default.in_default-own.keys2) in
     sym (last_none _ _) ∙ ap (last_spot_of _ _) (sym none) ∙ c.loop-t.invariant.1

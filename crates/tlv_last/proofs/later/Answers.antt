@@ -12,6 +12,7 @@ use Rattle.tlv_last.specs.declared.Found.{Found}
 use Rattle.tlv_last.specs.declared.Found.TheVariants.{At, Absent, Refused}
 use Rattle.tlv_last.specs.contracts.Found
 use borrow.Author.Rules.{rules}
+use borrow.Enum.Refused.{opened}
 use Rattle.tlv_last.proofs.later.Goals as goal
 
 -- the arm for whatever is found
@@ -21,4 +22,4 @@ stays Absent b k = absurd (⊎_elim (λ e. omega arith) (λ e. omega arith) k)
 stays (Refused r) b k = refl
 
 pub returns-in_default : goal.returns-in_default
-returns-in_default c = stays c.args.here _ c.in_default.in_default-own.keys2
+returns-in_default c = stays c.args.here _ (opened c.in_default.in_default-own.keys2)

@@ -14,6 +14,7 @@ use Rattle.tlv.proofs.Walks.{turn_entries, turn_none, turn_inside}
 use Rattle.tlv_writing.proofs.Encodes.{size_bound, entry_size_lem}
 use Rattle.tlv_writing.proofs.Several.{encode_none}
 use Rattle.tlv_rewriting.proofs.Kept.{kept_from, kept_start, kept_end, turn_skip, length_keep, count_keep, extent_is}
+use borrow.Enum.Refused.{opened}
 use Rattle.tlv_rewriting.proofs.kept_extent.Goals as goal
 
 pub loop-ty-init : goal.loop-ty-init
@@ -26,7 +27,7 @@ pub overflow_add-bytes : goal.overflow_add-bytes
 overflow_add-bytes c =
     let inside = turn_inside _ _ _ c.frame_at.ensures _ _ _ c.in-Entry.is in
     let n = c.in-Entry.len in
-    omega (arith, inside, c.entry_size_lem.ensures ∙ entry_size_lem n (omega arith), size_bound n)
+    omega (arith, inside, c.entry_size-bytes.ensures ∙ entry_size_lem n (omega arith), size_bound n)
 
 pub overflow_add-entries : goal.overflow_add-entries
 overflow_add-entries c = omega (arith, turn_inside _ _ _ c.frame_at.ensures _ _ _ c.in-Entry.is)
@@ -41,7 +42,7 @@ loop-ty-preserved-then-keeps c =
     let entries = turn_entries _ _ _ found _ _ _ c.in-Entry.is in
     let n = c.in-Entry.len in
     let kept = sym c.keeps.ensures ∙ c.if-keeps.true in
-    omega (arith, size_bound n, length_keep _ _ _ _ _ n entries inside.1 kept, count_keep _ _ _ _ _ n entries kept, c.entry_size_lem.ensures ∙ entry_size_lem n (omega arith))
+    omega (arith, size_bound n, length_keep _ _ _ _ _ n entries inside.1 kept, count_keep _ _ _ _ _ n entries kept, c.entry_size-bytes.ensures ∙ entry_size_lem n (omega arith))
 
 pub loop-ty-smaller : goal.loop-ty-smaller
 loop-ty-smaller c = omega (arith, turn_inside _ _ _ c.frame_at.ensures _ _ _ c.in-Entry.is)
@@ -57,7 +58,7 @@ loop-ty-preserved c =
 pub returns-in_default : goal.returns-in_default
 returns-in_default c =
     let a = c.args in
-    let none = kept_end a.c _ _ (turn_none _ _ _ c.frame_at.ensures c.in_default.in_default-own.keys2) in
+    let none = kept_end a.c _ _ (turn_none _ _ _ c.frame_at.ensures (opened c.in_default.in_default-own.keys2)) in
     let bytes = ap length (ap encode_all none ∙ encode_none) in
     let entries = ap length none in
     (extent_is _ _ (kept_from a.c a.s.now 0) (omega arith) (omega arith) ∙ ap extent_of (kept_start _ _), omega arith)

@@ -15,6 +15,7 @@ use Rattle.tlv.proofs.Walks.{turn_entries, turn_none, turn_inside}
 use Rattle.tlv_writing.proofs.Encodes.{entry_placed}
 use Rattle.tlv_writing.proofs.Several.{encode_none, size_part}
 use Rattle.tlv_rewriting.proofs.Kept.{kept_from, kept_start, kept_end, turn_skip, bytes_keep, length_keep}
+use borrow.Enum.Refused.{opened}
 use Rattle.tlv_rewriting.proofs.put_kept.Goals as goal
 
 pub loop-ty-init : goal.loop-ty-init
@@ -75,5 +76,5 @@ shape_of-out-in_default c = c.loop-ty.invariant.1
 
 pub returns-in_default : goal.returns-in_default
 returns-in_default c =
-    let none = turn_none _ _ _ c.frame_at.ensures c.in_default.in_default-own.keys2 in
+    let none = turn_none _ _ _ c.frame_at.ensures (opened c.in_default.in_default-own.keys2) in
     sym (put_none _ _) ∙ ap (put _ _) (sym (ap encode_all (kept_end _ _ _ none) ∙ encode_none)) ∙ c.loop-ty.invariant.3 ∙ ap (put _ _) (ap encode_all (kept_start _ _))

@@ -15,15 +15,15 @@ returns-then-at-out c = no_room_placed _ _ _ _ c.if-n-gt-MAX_EXTENDED_TLV_LENGTH
 pub returns-then-entry_size-out : goal.returns-then-entry_size-out
 returns-then-entry_size-out c =
     let long = c.if-n-gt-MAX_EXTENDED_TLV_LENGTH.false in
-    no_room_placed _ _ _ _ long (omega (arith, c.entry_size_lem.ensures ∙ entry_size_lem _ long))
+    no_room_placed _ _ _ _ long (omega (arith, c.entry_size.ensures ∙ entry_size_lem _ long))
 
 pub store_header-start-requires : goal.store_header-start-requires
 store_header-start-requires c =
     let long = c.if-n-gt-MAX_EXTENDED_TLV_LENGTH.false in
     let a = c.args in
-    (long, omega (arith, c.entry_size_lem.ensures ∙ entry_size_lem _ long, size_header a.ty (length a.value.now)))
+    (long, omega (arith, c.entry_size.ensures ∙ entry_size_lem _ long, size_header a.ty (length a.value.now)))
 
 pub returns : goal.returns
 returns c =
     let long = c.if-n-gt-MAX_EXTENDED_TLV_LENGTH.false in
-    c.put_bytes.ensures ∙ value_placed _ _ _ _ _ _ c.store_header-start.ensures.1 c.store_header-start.ensures.0 long (omega (arith, c.entry_size_lem.ensures ∙ entry_size_lem _ long))
+    c.put_bytes.ensures ∙ value_placed _ _ _ _ _ _ c.store_header-start.ensures.1 c.store_header-start.ensures.0 long (omega (arith, c.entry_size.ensures ∙ entry_size_lem _ long))

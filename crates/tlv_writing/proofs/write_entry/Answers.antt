@@ -15,7 +15,7 @@ returns-then-entry_size-out c =
     let a = c.args in
     let long = c.if-value-gt-MAX_EXTENDED_TLV_LENGTH.false in
     rw c.refuse-then-entry_size-out.ensures
-    (emit_no_room _ _ _ (encoded_fits _ _ long) (omega (arith, length_encode a.ty a.value.now, c.entry_size_lem.ensures ∙ entry_size_lem _ long)))
+    (emit_no_room _ _ _ (encoded_fits _ _ long) (omega (arith, length_encode a.ty a.value.now, c.entry_size.ensures ∙ entry_size_lem _ long)))
 
 pub returns : goal.returns
 returns c =
@@ -23,7 +23,7 @@ returns c =
     let long = c.if-value-gt-MAX_EXTENDED_TLV_LENGTH.false in
     let told = c.put_entry.ensures ∙ entry_placed _ _ _ _ long in
     let size = length_encode a.ty a.value.now in
-    let n = c.entry_size_lem.ensures ∙ entry_size_lem _ long in
+    let n = c.entry_size.ensures ∙ entry_size_lem _ long in
     emit_done _ _ _ (encoded_fits _ _ long) _ _
     (placed_next _ _ _ _ _ told (omega arith) ∙ zero-add _)
     (placed_left _ _ _ _ _ told (omega arith))

@@ -10,6 +10,9 @@ use Rattle.utf8.proofs.Rule.{rule}
 use Rattle.utf8.proofs.Places.{at_end}
 use Rattle.utf8.proofs.has_chars.Goals as goal
 
+pub loop-at-init : goal.loop-at-init
+loop-at-init c = refl
+
 pub overflow_cast-s : goal.overflow_cast-s
 overflow_cast-s c = omega (arith, c.type_inv.s c.loop-at.at)
 

@@ -10,21 +10,21 @@ use Rattle.diag_writing.proofs.checks.entry_fits.Goals as goal
 
 pub returns-then-e-gt-MAX_HAS_ROUTES : goal.returns-then-e-gt-MAX_HAS_ROUTES
 unfolding entry_fits
-returns-then-e-gt-MAX_HAS_ROUTES c = rw (eq-eqb _ _ (front_full c.args.e _ c.well-formed.0), lt-leb _ _ c.if-e-gt-MAX_HAS_ROUTES.true)
+returns-then-e-gt-MAX_HAS_ROUTES c = rw (eq-eqb _ _ (front_full c.args.e _ c.well_formed.0), lt-leb _ _ c.if-e-gt-MAX_HAS_ROUTES.true)
 
 pub returns-then-e-gt-MAX_BORDER_ROUTERS : goal.returns-then-e-gt-MAX_BORDER_ROUTERS
 unfolding entry_fits
 returns-then-e-gt-MAX_BORDER_ROUTERS c =
-    rw (eq-eqb _ _ (front_full c.args.e _ c.well-formed.0), le-leb _ _ c.if-e-gt-MAX_HAS_ROUTES.false, lt-leb _ _ c.if-e-gt-MAX_BORDER_ROUTERS.true)
+    rw (eq-eqb _ _ (front_full c.args.e _ c.well_formed.0), le-leb _ _ c.if-e-gt-MAX_HAS_ROUTES.false, lt-leb _ _ c.if-e-gt-MAX_BORDER_ROUTERS.true)
 
 pub returns-then-not-context_fits : goal.returns-then-not-context_fits
 unfolding entry_fits
 returns-then-not-context_fits c =
     let x = sym c.context_fits.ensures ∙ not-true _ c.if-not-context_fits.true-raw in
-    rw (eq-eqb _ _ (front_full c.args.e _ c.well-formed.0), le-leb _ _ c.if-e-gt-MAX_HAS_ROUTES.false, le-leb _ _ c.if-e-gt-MAX_BORDER_ROUTERS.false, x)
+    rw (eq-eqb _ _ (front_full c.args.e _ c.well_formed.0), le-leb _ _ c.if-e-gt-MAX_HAS_ROUTES.false, le-leb _ _ c.if-e-gt-MAX_BORDER_ROUTERS.false, x)
 
 pub returns : goal.returns
 unfolding entry_fits
 returns c =
     let x = sym c.context_fits.ensures ∙ not-false _ c.if-not-context_fits.false-raw in
-    rw (eq-eqb _ _ (front_full c.args.e _ c.well-formed.0), le-leb _ _ c.if-e-gt-MAX_HAS_ROUTES.false, le-leb _ _ c.if-e-gt-MAX_BORDER_ROUTERS.false, x) (ap (λ (n : ℕ). leb n 255) c.value_size.ensures)
+    rw (eq-eqb _ _ (front_full c.args.e _ c.well_formed.0), le-leb _ _ c.if-e-gt-MAX_HAS_ROUTES.false, le-leb _ _ c.if-e-gt-MAX_BORDER_ROUTERS.false, x) (ap (λ (n : ℕ). leb n 255) c.value_size.ensures)

@@ -8,5 +8,5 @@ pub returns : goal.returns
 returns c =
     λ l s.
     let t = c.args.t in
-    let good = c.well-formed.1.0 in
+    let good = c.well_formed.1.0 in
     planned _ l t _ _ _ _ _ _ s (full_mask t _ good, full_rows t _ good) _ c.plan_by.ensures

@@ -8,21 +8,21 @@ use Rattle.diag_writing.proofs.prefixes.put_head.Goals as goal
 
 pub bounds-out-start-2 : goal.bounds-out-start-2
 bounds-out-start-2 c =
-    let size = head_size c.args.e _ c.well-formed.0 in
+    let size = head_size c.args.e _ c.well_formed.0 in
     let e = c.put_mark-start.ensures.0 in
     let same = c.put_mark-start.auto.1.1.0 in
     simp length-set (omega arith)
 
 pub put_front-next-requires : goal.put_front-next-requires
 put_front-next-requires c =
-    let size = head_size c.args.e _ c.well-formed.0 in
+    let size = head_size c.args.e _ c.well_formed.0 in
     let e = c.put_mark-start.ensures.0 in
     let same = c.put_mark-start.auto.1.1.0 in
     (omega arith, simp length-set (omega arith))
 
 pub put_rows_mark-requires : goal.put_rows_mark-requires
 put_rows_mark-requires c =
-    let size = head_size c.args.e _ c.well-formed.0 in
+    let size = head_size c.args.e _ c.well_formed.0 in
     let e = c.put_mark-start.ensures.0 in
     let same = c.put_mark-start.auto.1.1.0 in
     let g = c.put_front-next.ensures.0 in
@@ -36,8 +36,8 @@ shape_of-out c =
 
 pub returns : goal.returns
 returns c =
-    let size = head_size c.args.e _ c.well-formed.0 in
+    let size = head_size c.args.e _ c.well_formed.0 in
     let e = c.put_mark-start.ensures.0 in
     let g = c.put_front-next.ensures.0 in
     let k = c.put_rows_mark.ensures.0 in
-    (omega arith, c.put_rows_mark.ensures.1 ∙ head_put c.args.e _ _ _ _ _ _ _ _ c.put_mark-start.ensures.1 refl e c.value_size.ensures c.put_front-next.ensures.1 (omega (arith, front_full c.args.e _ c.well-formed.0)))
+    (omega arith, c.put_rows_mark.ensures.1 ∙ head_put c.args.e _ _ _ _ _ _ _ _ c.put_mark-start.ensures.1 refl e c.value_size.ensures c.put_front-next.ensures.1 (omega (arith, front_full c.args.e _ c.well_formed.0)))

@@ -12,6 +12,9 @@ use Rattle.network_data.proofs.Passes.{in_end, in_cut}
 use Rattle.network_data.proofs.Moved.{inner_more, inner_refused}
 use Rattle.network_data.proofs.checks.check_inner.Goals as goal
 
+pub loop-ty-init : goal.loop-ty-init
+loop-ty-init c = refl
+
 pub returns-in-End : goal.returns-in-End
 returns-in-End c = sym (in_end _ _) ∙ ap (check_in _ _) (sym (turn_end _ _ _ _ c.first_tlv.ensures c.in-End.is)) ∙ c.loop-ty.invariant
 

@@ -10,7 +10,11 @@ use Rattle.refusal.specs.Answer.{absent}
 use Rattle.network_data.specs.Decode.{last_context}
 use Rattle.network_tables.specs.Answers.{context_answer}
 use Rattle.network_tables.proofs.Seeks.{context_none, context_hit, context_odd, context_miss}
+use borrow.Enum.Refused.{opened}
 use Rattle.network_tables.proofs.prefixes.context_in.Goals as goal
+
+pub loop-ty-init : goal.loop-ty-init
+loop-ty-init c = refl
 
 pub overflow_add-at : goal.overflow_add-at
 overflow_add-at c = omega (arith, turn_inside _ _ _ _ c.sub_in.ensures _ _ _ c.in-Item.is)
@@ -41,4 +45,4 @@ loop-ty-preserved c =
 
 pub returns-in_default : goal.returns-in_default
 returns-in_default c =
-    sym (context_none _ _) ∙ ap (last_context _ _) (sym (turn_none _ _ _ c.sub_in.result c.sub_in.ensures c.in_default.in_default-own.keys2)) ∙ c.loop-ty.invariant
+    sym (context_none _ _) ∙ ap (last_context _ _) (sym (turn_none _ _ _ c.sub_in.result c.sub_in.ensures (opened c.in_default.in_default-own.keys2))) ∙ c.loop-ty.invariant

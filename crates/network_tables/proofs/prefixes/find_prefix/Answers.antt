@@ -9,7 +9,11 @@ use Rattle.network_framing.specs.Frame.{walk_in}
 use Rattle.network_framing.proofs.Walks.{turn_items, turn_none, turn_inside}
 use Rattle.network_tables.specs.Cursor.{span_of}
 use Rattle.network_tables.proofs.Seeks.{span_none, span_hit, span_miss}
+use borrow.Enum.Refused.{opened}
 use Rattle.network_tables.proofs.prefixes.find_prefix.Goals as goal
+
+pub loop-ty-init : goal.loop-ty-init
+loop-ty-init c = refl
 
 pub overflow_add-at : goal.overflow_add-at
 overflow_add-at c = omega (arith, turn_inside _ _ _ _ c.sub_at.ensures _ _ _ c.in-Item.is)
@@ -27,4 +31,4 @@ loop-ty-preserved c =
 
 pub returns-in_default : goal.returns-in_default
 returns-in_default c =
-    sym span_none ∙ ap span_of (sym (turn_none _ _ _ c.sub_at.result c.sub_at.ensures c.in_default.in_default-own.keys2)) ∙ c.loop-ty.invariant
+    sym span_none ∙ ap span_of (sym (turn_none _ _ _ c.sub_at.result c.sub_at.ensures (opened c.in_default.in_default-own.keys2))) ∙ c.loop-ty.invariant

@@ -12,6 +12,7 @@ use native.Mathlib.Nat.{div-le_self, zero-add}
 use Rattle.network_data.specs.Decode.{places_in}
 use Rattle.network_tables.proofs.Seeks.{rows_none, rows_more, rows_same}
 use mathlib.Core.List.{List}
+use borrow.Enum.Refused.{opened}
 use Rattle.network_tables.proofs.prefixes.rows_in.Goals as goal
 
 pub loop-t-init : goal.loop-t-init
@@ -46,5 +47,5 @@ loop-t-preserved c =
 pub returns-in_default : goal.returns-in_default
 returns-in_default c =
     let a = c.args in
-    let one = ap (λ (l : List Piece). length (places_in a.ty a.size l)) (turn_none _ _ _ c.sub_in.result c.sub_in.ensures c.in_default.in_default-own.keys2) ∙ rows_none a.ty a.size in
+    let one = ap (λ (l : List Piece). length (places_in a.ty a.size l)) (turn_none _ _ _ c.sub_in.result c.sub_in.ensures (opened c.in_default.in_default-own.keys2)) ∙ rows_none a.ty a.size in
     omega (arith, c.loop-t.invariant.1)

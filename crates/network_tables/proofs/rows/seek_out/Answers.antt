@@ -9,7 +9,11 @@ use Rattle.network_framing.specs.Frame.{walk_in}
 use Rattle.network_framing.proofs.Walks.{turn_items, turn_none, turn_inside}
 use Rattle.network_tables.specs.Cursor.{rows_out}
 use Rattle.network_tables.proofs.Seeks.{out_empty, seek_miss, seek_hit, seek_none}
+use borrow.Enum.Refused.{opened}
 use Rattle.network_tables.proofs.rows.seek_out.Goals as goal
+
+pub loop-t-init : goal.loop-t-init
+loop-t-init c = refl
 
 pub overflow_add-at : goal.overflow_add-at
 overflow_add-at c = omega (arith, turn_inside _ _ _ _ c.sub_at.ensures _ _ _ c.in-Item.is)
@@ -39,4 +43,4 @@ loop-t-preserved c =
 
 pub returns-in_default : goal.returns-in_default
 returns-in_default c =
-    c.no_rows.ensures ∙ sym (out_empty _ _ _) ∙ ap (rows_out _ _ _) (sym (turn_none _ _ _ c.sub_at.result c.sub_at.ensures c.in_default.in_default-own.keys2)) ∙ c.loop-t.invariant
+    c.no_rows.ensures ∙ sym (out_empty _ _ _) ∙ ap (rows_out _ _ _) (sym (turn_none _ _ _ c.sub_at.result c.sub_at.ensures (opened c.in_default.in_default-own.keys2))) ∙ c.loop-t.invariant

@@ -13,6 +13,7 @@ use Rattle.child_lists.proofs.Lists.{follows, none_left}
 use Rattle.payload_sums.specs.Rows.{lists_onto, lists}
 use Rattle.payload_sums.proofs.Rowed.{lists_more, lists_done}
 use borrow.Author.Rules.{rules}
+use borrow.Enum.Refused.{opened}
 use Rattle.payload_sums.proofs.rows.lists_sum.Goals as goal
 
 pub loop-start-init : goal.loop-start-init
@@ -37,4 +38,4 @@ loop-start-preserved c =
 
 pub returns-in_default : goal.returns-in_default
 returns-in_default c =
-    lists_done _ _ _ (none_left _ _ c.next_child_list.result c.in_default.in_default-own.keys2 c.next_child_list.ensures) c.loop-start.invariant.1
+    lists_done _ _ _ (none_left _ _ c.next_child_list.result (opened c.in_default.in_default-own.keys2) c.next_child_list.ensures) c.loop-start.invariant.1

@@ -4,10 +4,6 @@ use Rattle.policy_flags.proofs.Thresholds.{flag_set, rest_is, field_set}
 use borrow.Author.Rules.{rules}
 use Rattle.policy_flags.proofs.SecurityPolicyFlags.set_version_threshold_for_routing.Goals as goal
 
-  statement,
-}
-use Rattle.policy_flags.proofs.SecurityPolicyFlags.set_version_threshold_for_routing.Tie as tie
-
 pub returns-in-V1Or2 : goal.returns-in-V1Or2
 unfolding with_threshold
 returns-in-V1Or2 c = rw c.in-V1Or2.is (flag_set _)

@@ -5,10 +5,6 @@ use Rattle.policy_flags.proofs.Thresholds.{has_legacy, no_legacy, field_is, thre
 use borrow.Author.Rules.{rules}
 use Rattle.policy_flags.proofs.SecurityPolicyFlags.version_threshold_for_routing.Goals as goal
 
-  statement,
-}
-use Rattle.policy_flags.proofs.SecurityPolicyFlags.version_threshold_for_routing.Tie as tie
-
 pub returns-then-contains : goal.returns-then-contains
 returns-then-contains c = threshold_legacy _ (has_legacy _ (sym c.contains.ensures ∙ c.if-contains.true))
 

@@ -9,13 +9,13 @@ use Rattle.writing_plans.proofs.linked.connectivity_fits.Goals as goal
 pub returns-then-not-priority_fits : goal.returns-then-not-priority_fits
 unfolding connectivity_fits
 returns-then-not-priority_fits c =
-    let told = c.priority_fits.ensures ∙ ap priority_fits (field_back c.args.c _ c.well-formed.0) in
+    let told = c.priority_fits.ensures ∙ ap priority_fits (field_back c.args.c _ c.well_formed.0) in
     let a = sym told ∙ not-true _ c.if-not-priority_fits.true-raw in
     rw a
 
 pub returns : goal.returns
 unfolding connectivity_fits
 returns c =
-    let told = c.priority_fits.ensures ∙ ap priority_fits (field_back c.args.c _ c.well-formed.0) in
+    let told = c.priority_fits.ensures ∙ ap priority_fits (field_back c.args.c _ c.well_formed.0) in
     let a = sym told ∙ not-false _ c.if-not-priority_fits.false-raw in
     rw a c.late_fits.ensures

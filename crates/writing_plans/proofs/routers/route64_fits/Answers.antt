@@ -6,15 +6,15 @@ use borrow.Author.Rules.{rules}
 use Rattle.writing_plans.proofs.routers.route64_fits.Goals as goal
 
 pub returns-then-t-gt64 : goal.returns-then-t-gt64
-returns-then-t-gt64 c = fits_out c.args.t (full_rows c.args.t _ c.well-formed.0) c.if-t-gt64.true
+returns-then-t-gt64 c = fits_out c.args.t (full_rows c.args.t _ c.well_formed.0) c.if-t-gt64.true
 
 pub returns-then-not-mask_agrees : goal.returns-then-not-mask_agrees
 returns-then-not-mask_agrees c =
     let t = c.args.t in
-    fits_other t (full_rows t _ c.well-formed.0) c.if-t-gt64.false (sym c.mask_agrees.ensures ∙ not-true _ c.if-not-mask_agrees.true-raw)
+    fits_other t (full_rows t _ c.well_formed.0) c.if-t-gt64.false (sym c.mask_agrees.ensures ∙ not-true _ c.if-not-mask_agrees.true-raw)
 
 pub returns : goal.returns
 returns c =
     let t = c.args.t in
     let agrees = sym c.mask_agrees.ensures ∙ not-false _ c.if-not-mask_agrees.false-raw in
-    c.rows_fit.ensures ∙ fits_rows t (full_rows t _ c.well-formed.0) c.if-t-gt64.false agrees
+    c.rows_fit.ensures ∙ fits_rows t (full_rows t _ c.well_formed.0) c.if-t-gt64.false agrees
