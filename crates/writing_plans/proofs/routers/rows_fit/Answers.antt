@@ -16,14 +16,14 @@ loop-n-init c = (search rules, all_start _ _ _)
 
 pub returns-then-not-route_row_fits : goal.returns-then-not-route_row_fits
 returns-then-not-route_row_fits c =
-    let t = c.args.t1 in
+    let t = c.args.t in
     let wide = full_rows t _ c.well_formed.0 in
     let no = sym c.route_row_fits.ensures ∙ not-true _ c.if-not-route_row_fits.true-raw in
     sym (all_fail route_row_fits t.route_data t.count _ c.loop-n.n c.loop-n-test.true (omega (arith, c.requires)) no) ∙ c.loop-n.invariant.1
 
 pub loop-n-preserved : goal.loop-n-preserved
 loop-n-preserved c =
-    let t = c.args.t1 in
+    let t = c.args.t in
     let wide = full_rows t _ c.well_formed.0 in
     let yes = sym c.route_row_fits.ensures ∙ not-false _ c.if-not-route_row_fits.false-raw in
     (search rules, all_pass route_row_fits t.route_data t.count _ c.loop-n.n c.loop-n-test.true (omega (arith, c.requires)) yes ∙ c.loop-n.invariant.1)
