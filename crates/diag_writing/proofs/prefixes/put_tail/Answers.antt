@@ -3,7 +3,6 @@ use mathlib.Core.Path.{refl}
 use native.Mathlib.Omega.{arith}
 use native.Mathlib.Nat.{add-zero}
 use lib.ListN.{length-set}
-use borrow.Author.Rules.{rules}
 use Rattle.laws.proofs.Puts.{put_none}
 use Rattle.diag_writing.proofs.PrefixParts.{context_none, context_length, context_put}
 use Rattle.diag_writing.proofs.prefixes.put_tail.Goals as goal
