@@ -1,5 +1,4 @@
 -- `writing_plans::plan_by` meets its contract: k is the place where all tests are made.
-use borrow.Author.Rules.{rules}
 use Rattle.writing_plans.proofs.Order.{in_order}
 use Rattle.writing_plans.proofs.plan_by.Goals as goal
 

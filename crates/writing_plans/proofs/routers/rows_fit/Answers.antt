@@ -1,12 +1,9 @@
 -- `writing_plans::routers::rows_fit` meets its contract. The invariant: the rows from n on fit where all of them do.
-use mathlib.Core.Path.{◌≡◌, sym, ◌∙◌}
-use Prim.Native.Nat.{◌-◌, ◌≤◌}
+use mathlib.Core.Path.{sym, ◌∙◌}
 use native.Mathlib.Omega.{arith}
-use lib.ListN.{take}
 use borrow.Author.Tests.{not-true, not-false}
-use Rattle.refusal.specs.Each.{all}
 use Rattle.value_writing.specs.Fits.{route_row_fits}
-use Rattle.writing_plans.proofs.Left.{left, all_start, all_end, all_fail, all_pass}
+use Rattle.writing_plans.proofs.Left.{all_start, all_end, all_fail, all_pass}
 use Rattle.writing_plans.proofs.Routing.{full_rows}
 use borrow.Author.Rules.{rules}
 use Rattle.writing_plans.proofs.routers.rows_fit.Goals as goal
