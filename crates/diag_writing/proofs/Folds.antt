@@ -3,9 +3,9 @@
 use mathlib.Core.Path.{◌≡◌, refl, sym, ap, subst, ◌∙◌}
 use mathlib.Core.Bool.{Bool, true, false}
 use mathlib.Core.List.{List, [], ◌∷◌}
-use Prim.Native.Nat.{ℕ, ◌+◌, ◌/◌, ◌≤◌}
+use Prim.Native.Nat.{ℕ, ◌+◌, ◌/◌, ◌≤◌, ◌<◌}
 use native.Mathlib.Omega.{arith}
-use lib.ListN.{length, take}
+use lib.ListN.{length, take, get_or}
 use lib.Seq.{take_all}
 use lib.Dec.{leb}
 use borrow.Author.Tests.{leb-true, leb-false, le-leb}
@@ -13,7 +13,7 @@ use Rattle.refusal.specs.Sizes.{most_has_routes, most_border_routers}
 use Rattle.refusal.specs.Answer.{pick, Answer, given, absent, refused}
 use Rattle.refusal.specs.Each.{all}
 use Rattle.laws.proofs.Tests.{by_test}
-use Rattle.tables.specs.Fold.{fold}
+use Rattle.tables.specs.Fold.{fold, fold_none, fold_more}
 use Rattle.tlv_writing.specs.Encode.{entry_size}
 use Rattle.network_data.specs.declared.PrefixEntry.{PrefixEntry}
 use Rattle.diag_rows.specs.Rows.{Part}
@@ -69,6 +69,17 @@ used_within r s ps hs bs cs ls room = record {
   children_in = children_within (opt_part r.child_table) cs;
   lists_in = least_within r.child_ipv6_addresses ls;
 }
+
+-- ---- a pass over the first n rows: before the first of them, after one more, and after the last
+module _ {A B : Type 0} (g : B → A → B) (b : B) (xs : List A) where
+  pub pass_none : b ≡ fold g b (take 0 xs)
+  pass_none = sym (fold_none g b xs)
+
+  pub pass_more : (i : ℕ) (d : A) (f f' : B) → i < length xs → f ≡ fold g b (take i xs) → f' ≡ g f (get_or xs i d) → f' ≡ fold g b (take (i + 1) xs)
+  pass_more i d f f' h e k = k ∙ ap (λ (z : B). g z (get_or xs i d)) e ∙ sym (fold_more g b xs i d h)
+
+  pub pass_all : (i n : ℕ) (f : B) → i ≤ n → n ≤ i → f ≡ fold g b (take i xs) → f ≡ fold g b (take n xs)
+  pass_all i n f h k e = let z : i ≡ n = omega arith in e ∙ ap (λ (j : ℕ). fold g b (take j xs)) z
 
 -- ---- a flag
 module _ {A : Type 0} (f : A → Bool) where

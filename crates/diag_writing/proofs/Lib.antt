@@ -18,3 +18,5 @@ pub mod Entries
 pub mod Listed
 mod Joining
 pub mod Ready
+mod Scans
+mod InTurn

@@ -326,7 +326,7 @@ module _ (r : NetDiagData) (l : Lent) (t : Route64) (x : Used) (f : Prefixes) (h
             let nn = ap (λ (y : Planning). y.network) e in
             let cn = ap (λ (y : Planning). y.children) e in
             let ln = ap (λ (y : Planning). y.lists) e ∙ lists_count in
-            let th = thirds x c (opt_part r.child_table) q.children (length l.children) (g.children_lent r l t x f h b c ls s) good.children (cn ∙ g.children_used r l t x f h b c ls s) in
+            let th = thirds x c (opt_part r.child_table) q.children (length l.children) (g.children_lent r l t x f h b c ls s) good.children (cn ∙ g.children_used_lem r l t x f h b c ls s) in
             let used = take (counts_in r.network_data).prefixes l.prefixes in
             let short : prefixes_size used ≤ most_bytes = omega (arith, total, size_is, network.bound) in
             let size = network.near.small short in

@@ -79,6 +79,10 @@ module _ (T : List PrefixEntry) (n : ℕ) (R : List HasRouteEntry) (B : List Bor
       let none : bytes_of (take (n - n) (drop n T)) d.route d.border ≡ [] = ap (λ (k : ℕ). bytes_of (take k (drop n T)) d.route d.border) z ∙ nothing d.route d.border in
       (omega (arith, h.2, ap length none), sym (put_none p d.at) ∙ ap (put p d.at) (sym none) ∙ h.3)
 
+  pub prefixes_done : (i : ℕ) → i ≤ n → n ≤ i → (d : Cursor) (p : List ℕ) → PrefixInv i d p
+      → (d.at ≡ c.at + length (bytes_of (take n T) c.route c.border)) × (p ≡ put o c.at (bytes_of (take n T) c.route c.border))
+  prefixes_done i h k d p v = let e : i ≡ n = omega arith in prefixes_end d p (subst (λ (j : ℕ). PrefixInv j d p) e v)
+
   module _ (fits : n ≤ length T) (none : PrefixEntry) (i : ℕ) (more : i < n) (d : Cursor) (p : List ℕ) (h : PrefixInv i d p) where
     abbrev e : PrefixEntry
     e = get_or T i none

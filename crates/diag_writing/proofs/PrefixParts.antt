@@ -89,7 +89,7 @@ module _ (e : PrefixEntry) where
 
     pub front_full : length front ≡ bytes_for e.prefix_bit_length
     front_full =
-        let array = sym (length-map e.prefix _) ∙ (LL.owed E.the_type E'.the_laws e vs is).1.1.0.1.0.1 in
+        let array = (LL.owed E.the_type E'.the_laws e vs is).1.1.0.1.0.1 in
         length-take-le (bytes_for e.prefix_bit_length) e.prefix (omega (arith, front_fits))
 
     pub head_size : (bytes_for e.prefix_bit_length ≤ 32) × (length (head_bytes e) ≡ 4 + bytes_for e.prefix_bit_length + length mark)

@@ -1,11 +1,12 @@
 -- A loop that stores rows of a table one after the other, in an output that has room for them: what holds after i of n rows.
 -- Assumes nothing.
-use mathlib.Core.Path.{◌≡◌, refl, sym, ap, ◌∙◌}
+use mathlib.Core.Path.{◌≡◌, refl, sym, ap, subst, ◌∙◌}
 use mathlib.Core.List.{List, [], ◌∷◌, ◌++◌}
 use Prim.Native.Nat.{ℕ, zero, suc, ◌+◌, ◌-◌, ◌≤◌, ◌<◌}
 use native.Mathlib.Omega.{arith}
+use native.Mathlib.Nat.{zero-add}
 use lib.ListN.{length, get_or, take, drop, length-append}
-use lib.Seq.{drop-cons}
+use lib.Seq.{drop-cons, get_or-take, length-take-le}
 use Rattle.refusal.specs.Every.{Every}
 use Rattle.refusal.specs.Output.{put}
 use Rattle.refusal.specs.Each.{joined}
@@ -51,6 +52,10 @@ module _ {A : Type 0} (enc : A → List ℕ) (T : List A) (from n at : ℕ) (o :
       let none : joined enc (take (n - n) (drop (from + n) T)) ≡ [] = ap (joined enc) (rest_end T from n) in
       (omega (arith, h.0, ap length none), sym (put_none p d) ∙ ap (put p d) (sym none) ∙ h.1)
 
+  pub rows_done : (i : ℕ) → i ≤ n → n ≤ i → (d : ℕ) (p : List ℕ) → RowInv i d p
+      → (d ≡ at + length (joined enc (take n (drop from T)))) × (p ≡ put o at (joined enc (take n (drop from T))))
+  rows_done i h k d p v = let e : i ≡ n = omega arith in rows_end d p (subst (λ (j : ℕ). RowInv j d p) e v)
+
   module _ (fits : from + n ≤ length T) (none : A) (i : ℕ) (more : i < n) (d : ℕ) (p : List ℕ) (h : RowInv i d p) where
     abbrev row : List ℕ
     row = enc (get_or T (from + i) none)
@@ -71,3 +76,19 @@ module _ {A : Type 0} (enc : A → List ℕ) (T : List A) (from n at : ℕ) (o :
     pub rows_turn : (d' : ℕ) (p' : List ℕ) → d' ≡ d + length row → p' ≡ put p d row → RowInv (i + 1) d' p'
     rows_turn d' p' e l =
         (omega (arith, rows_length), put_then p p' d d' row later l e ∙ ap (put p d) (sym rows_more) ∙ h.1, ap length l ∙ put_length p d row ∙ h.2)
+
+-- ---- the first n rows of a table, of which i are done
+module _ {A : Type 0} (T : List A) (n i : ℕ) (more : i < n) (fits : n ≤ length T) (none : A) where
+  -- row i of those that are written
+  pub first_at : (P : A → Type 0) → Every P (take n T) → P (get_or T i none)
+  first_at P h = subst P (get_or-take n T i none more) (every_at P (take n T) i none (omega (arith, length-take-le n T fits)) h)
+
+  module _ (enc : A → List ℕ) (at : ℕ) (o : List ℕ) (d : ℕ) (p : List ℕ) (v : RowInv enc T 0 n at o i d p) where
+    pub first_need : at + length (joined enc (take n T)) ≤ length o → d + length (enc (get_or T i none)) ≤ length p
+    first_need room =
+        subst (λ (j : ℕ). d + length (enc (get_or T j none)) ≤ length p) (zero-add i) (rows_need enc T 0 n at o (omega arith) none i more d p v room)
+
+    pub first_turn : (d' : ℕ) (p' : List ℕ) → d' ≡ d + length (enc (get_or T i none)) → p' ≡ put p d (enc (get_or T i none)) → RowInv enc T 0 n at o (i + 1) d' p'
+    first_turn d' p' e l =
+        rows_turn enc T 0 n at o (omega arith) none i more d p v d' p' (subst (λ (j : ℕ). d' ≡ d + length (enc (get_or T j none))) (sym (zero-add i)) e)
+        (subst (λ (j : ℕ). p' ≡ put p d (enc (get_or T j none))) (sym (zero-add i)) l)

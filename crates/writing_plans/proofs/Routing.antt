@@ -30,7 +30,7 @@ use Rattle.record_writing.specs.Written.{routes_counted}
 use Rattle.writing_plans.proofs.Left.{left, left_start, left_end, left_more}
 
 -- the bytes of an array are below 256
-each_small : (xs : List ℕ) (us : List Val) → shadow (each ℕ (UInt w8).own_val (map (λ v. v) xs) us) → (j : ℕ) → get_or xs j 0 < 256
+each_small : (xs : List ℕ) (us : List Val) → shadow (each ℕ (UInt w8).own_val xs us) → (j : ℕ) → get_or xs j 0 < 256
 each_small [] us p j = omega arith
 each_small (x ∷ xs) [] p j = absurd p
 each_small (x ∷ xs) (u ∷ us) p zero = p.0.1
@@ -38,13 +38,13 @@ each_small (x ∷ xs) (u ∷ us) p (suc j) = each_small xs us p.1 j
 
 module _ (t : Route64) (vs : List Val) (p : Is R.the_row t vs) where
   pub full_mask : length t.mask ≡ 8
-  full_mask = sym (length-map t.mask _) ∙ (LL.owed R.the_type R'.the_laws t vs p).1.0.1.0.1
+  full_mask = (LL.owed R.the_type R'.the_laws t vs p).1.0.1.0.1
 
   pub mask_small : (j : ℕ) → get_or t.mask j 0 < 256
   mask_small = let mask = (LL.owed R.the_type R'.the_laws t vs p).1.0 in each_small t.mask mask.0 mask.1.1
 
   pub full_rows : length t.route_data ≡ 64
-  full_rows = sym (length-map t.route_data _) ∙ (LL.owed R.the_type R'.the_laws t vs p).1.1.1.0.1.0.1
+  full_rows = (LL.owed R.the_type R'.the_laws t vs p).1.1.1.0.1.0.1
 
 -- the mask's bytes, where it stands alone
 pub mask_byte : (m : List ℕ) (j : ℕ) → byte_at (0 ∷ m) (1 + j) ≡ get_or m j 0

@@ -1,5 +1,4 @@
-// No functions: the records that the writer hands from one call to the next, and the walks of its straight lines of calls, which are the same whatever the
-// calls do.
+// No functions: the records that the writer hands from one call to the next.
 #![tactic(auto)]
 
 use refusal::Written;

@@ -1,5 +1,4 @@
 -- `writing_bridge::write` meets its contract: the counts that it lends are those of the definition.
-use borrow.Author.Rules.{rules}
 use Rattle.writing_bridge.proofs.write.Goals as goal
 
 pub returns : goal.returns

@@ -1,5 +1,4 @@
 -- `writing_plans::count_used` meets its contract.
-use borrow.Author.Rules.{rules}
 use Rattle.writing_plans.specs.Used.{used_of}
 use Rattle.writing_plans.proofs.count_used.Goals as goal
 

@@ -1,5 +1,4 @@
 -- `writing_plans::is_small` meets its contract.
-use borrow.Author.Rules.{rules}
 use borrow.Author.Tests.{le-leb, lt-leb}
 use native.Mathlib.Omega.{arith}
 use Rattle.refusal.specs.Sizes.{most_entries}

@@ -1,5 +1,4 @@
 -- `writing_plans::placed` meets its contract.
-use borrow.Author.Rules.{rules}
 use borrow.Author.Tests.{le-leb, lt-leb}
 use mathlib.Core.Path.{◌∙◌}
 use Rattle.writing_plans.proofs.placed.Goals as goal

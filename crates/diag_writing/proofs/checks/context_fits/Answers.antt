@@ -1,5 +1,4 @@
 -- `diag_writing::checks::context_fits` meets its contract.
-use borrow.Author.Rules.{rules}
 use Rattle.network_writing.specs.Fits.{context_fits}
 use Rattle.diag_writing.proofs.checks.context_fits.Goals as goal
 

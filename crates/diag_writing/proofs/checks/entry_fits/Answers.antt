@@ -2,7 +2,6 @@
 use mathlib.Core.Path.{sym, ap, ◌∙◌}
 use Prim.Native.Nat.{ℕ}
 use lib.Dec.{leb}
-use borrow.Author.Rules.{rules}
 use borrow.Author.Tests.{not-true, not-false, le-leb, lt-leb, eq-eqb}
 use Rattle.diag_writing.specs.Checks.{entry_fits}
 use Rattle.diag_writing.proofs.PrefixParts.{front_full}

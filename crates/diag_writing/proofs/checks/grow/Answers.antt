@@ -1,5 +1,4 @@
 -- `diag_writing::checks::grow` meets its contract.
-use borrow.Author.Rules.{rules}
 use borrow.Author.Tests.{le-leb, lt-leb}
 use Rattle.diag_writing.specs.Checks.{grown}
 use Rattle.diag_writing.proofs.checks.grow.Goals as goal

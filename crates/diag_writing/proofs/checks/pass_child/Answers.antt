@@ -1,5 +1,4 @@
 -- `diag_writing::checks::pass_child` meets its contract.
-use borrow.Author.Rules.{rules}
 use borrow.Author.Tests.{not-true, not-false}
 use Rattle.diag_writing.proofs.checks.pass_child.Goals as goal
 

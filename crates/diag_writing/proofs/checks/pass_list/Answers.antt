@@ -3,7 +3,6 @@ use mathlib.Core.Path.{ap, ◌∙◌}
 use mathlib.Core.Bool.{Bool, false}
 use Prim.Native.Nat.{◌+◌}
 use native.Mathlib.Omega.{arith}
-use borrow.Author.Rules.{rules}
 use Rattle.refusal.specs.Answer.{pick}
 use Rattle.diag_writing.specs.Checks.{grown}
 use Rattle.writing_plans.proofs.Tested.{entry_most}

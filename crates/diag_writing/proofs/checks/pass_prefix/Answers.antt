@@ -2,7 +2,6 @@
 use mathlib.Core.Path.{sym, ap, ◌∙◌}
 use Prim.Native.Nat.{ℕ, ◌+◌}
 use native.Mathlib.Omega.{arith}
-use borrow.Author.Rules.{rules}
 use borrow.Author.Tests.{not-true, not-false, le-leb, lt-leb}
 use Rattle.diag_writing.specs.Checks.{grown, passed_prefix}
 use Rattle.diag_writing.proofs.TableChecks.{entry_fits_lem, prefix_passed}

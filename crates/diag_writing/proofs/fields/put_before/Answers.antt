@@ -4,7 +4,6 @@ use native.Mathlib.Omega.{arith}
 use native.Mathlib.Nat.{zero-add}
 use Rattle.diag_writing.proofs.Wrote.{wrote_then}
 use Rattle.diag_writing.proofs.Entries.{before_size, starting}
-use borrow.Author.Rules.{rules}
 use Rattle.diag_writing.proofs.fields.put_before.Goals as goal
 
 pub put_first-a-requires : goal.put_first-a-requires

@@ -2,7 +2,6 @@
 use native.Mathlib.Omega.{arith}
 use Rattle.diag_writing.proofs.Wrote.{wrote_then}
 use Rattle.diag_writing.proofs.Entries.{between_size}
-use borrow.Author.Rules.{rules}
 use Rattle.diag_writing.proofs.fields.put_between.Goals as goal
 
 pub put_middle-a-requires : goal.put_middle-a-requires

@@ -2,7 +2,6 @@
 use mathlib.Core.Path.{ap}
 use Rattle.diag.specs.Answers.{opt_part}
 use Rattle.diag_writing.proofs.Entries.{headed_wrote, empty_wrote, child_given, child_absent, child_short}
-use borrow.Author.Rules.{rules}
 use Rattle.diag_writing.proofs.fields.put_child_header.Goals as goal
 
 pub returns-in-Some : goal.returns-in-Some

@@ -4,7 +4,6 @@ use native.Mathlib.Omega.{arith}
 use Rattle.value_writing.specs.Encode.{connectivity_bytes}
 use Rattle.diag.specs.Answers.{opt_connectivity}
 use Rattle.diag_writing.proofs.Entries.{given_room, given_wrote, absent_wrote, front_is, front_short}
-use borrow.Author.Rules.{rules}
 use Rattle.diag_writing.proofs.fields.put_connectivity.Goals as goal
 
 pub slice_bounds-put_value-end : goal.slice_bounds-put_value-end

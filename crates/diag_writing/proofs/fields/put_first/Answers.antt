@@ -4,7 +4,6 @@ use native.Mathlib.Omega.{arith}
 use native.Mathlib.Nat.{zero-add}
 use Rattle.diag_writing.specs.Pieces.{first_fields}
 use Rattle.diag_writing.proofs.Entries.{fields_size, wrote_more, wrote_last}
-use borrow.Author.Rules.{rules}
 use Rattle.diag_writing.proofs.fields.put_first.Goals as goal
 
 pub put_part-a-requires : goal.put_part-a-requires

@@ -5,7 +5,6 @@ use Rattle.value_writing.specs.Encode.{leader_bytes}
 use Rattle.diag.specs.Answers.{opt_leader_data}
 use Rattle.value_writing.proofs.Round.{leader_size}
 use Rattle.diag_writing.proofs.Entries.{fixed_room, given_wrote, absent_wrote}
-use borrow.Author.Rules.{rules}
 use Rattle.diag_writing.proofs.fields.put_leader_data.Goals as goal
 
 pub put_value-requires : goal.put_value-requires

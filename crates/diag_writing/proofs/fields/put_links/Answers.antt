@@ -2,7 +2,6 @@
 use native.Mathlib.Omega.{arith}
 use Rattle.diag_writing.specs.Pieces.{link_fields}
 use Rattle.diag_writing.proofs.Entries.{fields_size, wrote_more, wrote_last}
-use borrow.Author.Rules.{rules}
 use Rattle.diag_writing.proofs.fields.put_links.Goals as goal
 
 pub put_connectivity-a-requires : goal.put_connectivity-a-requires

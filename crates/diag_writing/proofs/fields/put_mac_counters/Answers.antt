@@ -5,7 +5,6 @@ use Rattle.value_writing.specs.Encode.{counters_bytes}
 use Rattle.diag.specs.Answers.{opt_mac_counters}
 use Rattle.value_writing.proofs.Round.{counters_size}
 use Rattle.diag_writing.proofs.Entries.{fixed_room, given_wrote, absent_wrote}
-use borrow.Author.Rules.{rules}
 use Rattle.diag_writing.proofs.fields.put_mac_counters.Goals as goal
 
 pub put_value-requires : goal.put_value-requires

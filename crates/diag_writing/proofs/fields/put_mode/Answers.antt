@@ -5,7 +5,6 @@ use Rattle.value_writing.specs.Encode.{mode_bytes}
 use Rattle.diag.specs.Answers.{opt_mode}
 use Rattle.record_writing.specs.Values.{one_byte}
 use Rattle.diag_writing.proofs.Entries.{fixed_room, given_wrote, absent_wrote}
-use borrow.Author.Rules.{rules}
 use Rattle.diag_writing.proofs.fields.put_mode.Goals as goal
 
 pub put_value-requires : goal.put_value-requires

@@ -1,6 +1,5 @@
 -- `diag_writing::fields::put_network_header` meets its contract: a header where Network Data is present.
 use Rattle.diag_writing.proofs.Entries.{headed_wrote, empty_wrote, network_given, network_absent}
-use borrow.Author.Rules.{rules}
 use Rattle.diag_writing.proofs.fields.put_network_header.Goals as goal
 
 pub returns-in-Some : goal.returns-in-Some

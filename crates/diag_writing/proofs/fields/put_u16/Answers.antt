@@ -5,7 +5,6 @@ use Rattle.wire_bytes.specs.Bytes.{bytes_of}
 use Rattle.diag_values.specs.Answers.{opt_answer16}
 use Rattle.wire.proofs.Round.{length_bytes}
 use Rattle.diag_writing.proofs.Entries.{fixed_room, given_wrote, absent_wrote}
-use borrow.Author.Rules.{rules}
 use Rattle.diag_writing.proofs.fields.put_u16.Goals as goal
 
 pub put_value-requires : goal.put_value-requires

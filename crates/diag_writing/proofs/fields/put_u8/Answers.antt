@@ -4,7 +4,6 @@ use native.Mathlib.Omega.{arith}
 use Rattle.record_writing.specs.Values.{one_byte}
 use Rattle.diag_values.specs.Answers.{opt_answer8}
 use Rattle.diag_writing.proofs.Entries.{fixed_room, given_wrote, absent_wrote}
-use borrow.Author.Rules.{rules}
 use Rattle.diag_writing.proofs.fields.put_u8.Goals as goal
 
 pub put_value-requires : goal.put_value-requires

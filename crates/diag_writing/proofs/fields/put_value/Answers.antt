@@ -1,6 +1,5 @@
 -- `diag_writing::fields::put_value` meets its contract: there is room for the entry, so it is written.
 use Rattle.diag_writing.proofs.Wrote.{entry_wrote}
-use borrow.Author.Rules.{rules}
 use Rattle.diag_writing.proofs.fields.put_value.Goals as goal
 
 pub returns : goal.returns

@@ -4,7 +4,6 @@ use Rattle.value_writing.specs.Encode.{priority_bits}
 use Rattle.writing_plans.proofs.Priority.{field_back}
 use Rattle.diag_writing.proofs.Late.{no_buffer, no_count, both_late}
 use native.Mathlib.Omega.{arith}
-use borrow.Author.Rules.{rules}
 use Rattle.diag_writing.proofs.linked.connectivity_bytes.Goals as goal
 
 pub returns-in-None : goal.returns-in-None

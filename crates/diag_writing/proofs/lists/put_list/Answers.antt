@@ -24,7 +24,7 @@ overflow_add-a c =
     search rules
 
 pub shape_of-out : goal.shape_of-out
-shape_of-out c = simp length-set at c.put_bytes.auto.1.0 ∙ c.put_header-a.auto.1.1.0
+shape_of-out c = simp length-set at c.put_bytes.auto.out ∙ c.put_header-a.auto.out
 
 pub returns : goal.returns
 returns c =

@@ -1,5 +1,4 @@
 -- `diag_writing::plan::chosen` meets its contract.
-use borrow.Author.Rules.{rules}
 use Rattle.diag_writing.proofs.plan.chosen.Goals as goal
 
 pub returns-then-p : goal.returns-then-p

@@ -1,5 +1,4 @@
 -- `diag_writing::plan::judge` meets its contract.
-use borrow.Author.Rules.{rules}
 use Rattle.writing_plans.proofs.Routing.{full_mask, full_rows}
 use Rattle.diag_writing.proofs.Planned.{planned}
 use Rattle.diag_writing.proofs.plan.judge.Goals as goal

@@ -1,6 +1,5 @@
 -- `diag_writing::prefixes::after` meets its contract.
 use native.Mathlib.Omega.{arith}
-use borrow.Author.Rules.{rules}
 use Rattle.diag_writing.proofs.PrefixParts.{cursor_is}
 use Rattle.diag_writing.proofs.prefixes.after.Goals as goal
 

@@ -1,6 +1,5 @@
 -- `diag_writing::prefixes::context_size` meets its contract.
 use native.Mathlib.Omega.{arith}
-use borrow.Author.Rules.{rules}
 use Rattle.diag_writing.specs.Pieces.{context_size}
 use Rattle.diag_writing.proofs.prefixes.context_size.Goals as goal
 

@@ -8,5 +8,5 @@ use Rattle.diag_writing.proofs.prefixes.put_front.Goals as goal
 
 pub returns : goal.returns
 returns c =
-    let array : length c.args.t1 ≡ 32 = search rules in
-    front_put c.args.t1 c.args.n c.args.at _ _ _ (omega arith) c.requires.1 c.put_bytes.ensures
+    let array : length c.args.bytes ≡ 32 = search rules in
+    front_put c.args.bytes c.args.n c.args.at _ _ _ (omega arith) c.requires.1 c.put_bytes.ensures

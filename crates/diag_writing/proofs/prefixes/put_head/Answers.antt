@@ -2,7 +2,6 @@
 use mathlib.Core.Path.{refl, ◌∙◌}
 use native.Mathlib.Omega.{arith}
 use lib.ListN.{length-set}
-use borrow.Author.Rules.{rules}
 use Rattle.diag_writing.proofs.PrefixParts.{front_full, head_size, head_put}
 use Rattle.diag_writing.proofs.prefixes.put_head.Goals as goal
 
@@ -10,29 +9,29 @@ pub bounds-out-start-2 : goal.bounds-out-start-2
 bounds-out-start-2 c =
     let size = head_size c.args.e _ c.well_formed.0 in
     let e = c.put_mark-start.ensures.0 in
-    let same = c.put_mark-start.auto.1.1.0 in
+    let same = c.put_mark-start.auto.out in
     simp length-set (omega arith)
 
 pub put_front-next-requires : goal.put_front-next-requires
 put_front-next-requires c =
     let size = head_size c.args.e _ c.well_formed.0 in
     let e = c.put_mark-start.ensures.0 in
-    let same = c.put_mark-start.auto.1.1.0 in
+    let same = c.put_mark-start.auto.out in
     (omega arith, simp length-set (omega arith))
 
 pub put_rows_mark-requires : goal.put_rows_mark-requires
 put_rows_mark-requires c =
     let size = head_size c.args.e _ c.well_formed.0 in
     let e = c.put_mark-start.ensures.0 in
-    let same = c.put_mark-start.auto.1.1.0 in
+    let same = c.put_mark-start.auto.out in
     let g = c.put_front-next.ensures.0 in
-    let kept = simp length-set at c.put_front-next.auto.1.1.0 in
+    let kept = simp length-set at c.put_front-next.auto.out in
     omega arith
 
 pub shape_of-out : goal.shape_of-out
 shape_of-out c =
-    let kept = simp length-set at c.put_front-next.auto.1.1.0 in
-    c.put_rows_mark.auto.1.1.1.0 ∙ kept ∙ c.put_mark-start.auto.1.1.0
+    let kept = simp length-set at c.put_front-next.auto.out in
+    c.put_rows_mark.auto.out ∙ kept ∙ c.put_mark-start.auto.out
 
 pub returns : goal.returns
 returns c =

@@ -2,7 +2,6 @@
 use mathlib.Core.Path.{refl}
 use native.Mathlib.Omega.{arith}
 use lib.ListN.{length-set}
-use borrow.Author.Rules.{rules}
 use Rattle.diag_writing.proofs.PrefixParts.{put_two}
 use Rattle.diag_writing.proofs.prefixes.put_mark.Goals as goal
 

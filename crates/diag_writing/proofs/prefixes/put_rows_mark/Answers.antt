@@ -3,7 +3,6 @@ use mathlib.Core.Path.{sym, ap, ◌∙◌}
 use native.Mathlib.Omega.{arith}
 use native.Mathlib.Nat.{add-zero}
 use lib.ListN.{length}
-use borrow.Author.Rules.{rules}
 use Rattle.refusal.specs.Output.{put}
 use Rattle.laws.proofs.Puts.{put_none}
 use Rattle.diag_writing.proofs.PrefixParts.{mark_none, mark_some}

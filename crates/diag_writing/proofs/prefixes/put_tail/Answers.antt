@@ -3,7 +3,6 @@ use mathlib.Core.Path.{refl}
 use native.Mathlib.Omega.{arith}
 use native.Mathlib.Nat.{add-zero}
 use lib.ListN.{length-set}
-use borrow.Author.Rules.{rules}
 use Rattle.laws.proofs.Puts.{put_none}
 use Rattle.diag_writing.proofs.PrefixParts.{context_none, context_length, context_put}
 use Rattle.diag_writing.proofs.prefixes.put_tail.Goals as goal
@@ -12,11 +11,11 @@ pub put_mark-start-requires : goal.put_mark-start-requires
 put_mark-start-requires c = omega (arith, context_length _ _ c.in-Some.is)
 
 pub bounds-out-start : goal.bounds-out-start
-bounds-out-start c = omega (arith, context_length _ _ c.in-Some.is, c.put_mark-start.auto.1.1.0, c.put_mark-start.ensures.0)
+bounds-out-start c = omega (arith, context_length _ _ c.in-Some.is, c.put_mark-start.auto.out, c.put_mark-start.ensures.0)
 
 pub bounds-out-start-in-Some : goal.bounds-out-start-in-Some
 bounds-out-start-in-Some c =
-    simp length-set (omega (arith, context_length _ _ c.in-Some.is, c.put_mark-start.auto.1.1.0, c.put_mark-start.ensures.0))
+    simp length-set (omega (arith, context_length _ _ c.in-Some.is, c.put_mark-start.auto.out, c.put_mark-start.ensures.0))
 
 pub returns-in-Some : goal.returns-in-Some
 returns-in-Some c =

@@ -1,6 +1,5 @@
 -- `diag_writing::prefixes::rows_size` meets its contract.
 use native.Mathlib.Omega.{arith}
-use borrow.Author.Rules.{rules}
 use borrow.Author.Tests.{eq-eqb, ne_eqb}
 use Rattle.diag_writing.specs.Pieces.{rows_size}
 use Rattle.diag_writing.proofs.prefixes.rows_size.Goals as goal

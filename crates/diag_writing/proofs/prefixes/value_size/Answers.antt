@@ -1,5 +1,4 @@
 -- `diag_writing::prefixes::value_size` meets its contract.
-use borrow.Author.Rules.{rules}
 use Rattle.diag_writing.proofs.prefixes.value_size.Goals as goal
 
 pub returns : goal.returns

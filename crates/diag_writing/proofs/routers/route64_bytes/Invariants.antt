@@ -1,10 +1,8 @@
 -- `diag_writing::routers::route64_bytes` meets its contract. The invariant: what is stored, with the bytes of the rows from n on, is the value.
 use mathlib.Core.Path.{◌≡◌}
 use Prim.Native.Nat.{◌-◌, ◌≤◌}
-use lib.ListN.{length, length-set}
-use Rattle.writing_plans.proofs.Routing.{full_mask, full_rows}
-use Rattle.diag_writing.proofs.Stored.{Stored, stored_start, stored_more, stored_end}
-use borrow.Author.Rules.{rules}
+use lib.ListN.{length}
+use Rattle.diag_writing.proofs.Stored.{Stored}
 use Rattle.diag_writing.proofs.routers.route64_bytes.Given as goal
 
 abbrev pub invariant-loop-n : goal.invariant-loop-n

@@ -1,6 +1,5 @@
 -- `diag_writing::rows::border_flags` meets its contract.
 use native.Mathlib.Omega.{arith}
-use borrow.Author.Rules.{rules}
 use Rattle.diag_writing.proofs.rows.border_flags.Goals as goal
 
 pub returns : goal.returns

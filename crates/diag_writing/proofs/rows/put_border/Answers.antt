@@ -3,7 +3,6 @@ use native.Mathlib.Omega.{arith}
 use lib.ListN.{length-set}
 use Rattle.network_writing.proofs.Rows.{border_size}
 use Rattle.diag_writing.proofs.Wrote.{border_wrote}
-use borrow.Author.Rules.{rules}
 use Rattle.diag_writing.proofs.rows.put_border.Goals as goal
 
 pub bounds-out-at : goal.bounds-out-at

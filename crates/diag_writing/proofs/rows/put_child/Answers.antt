@@ -3,7 +3,6 @@ use native.Mathlib.Omega.{arith}
 use lib.ListN.{length-set}
 use Rattle.value_writing.proofs.Round.{child_size}
 use Rattle.diag_writing.proofs.Wrote.{child_wrote}
-use borrow.Author.Rules.{rules}
 use Rattle.diag_writing.proofs.rows.put_child.Goals as goal
 
 pub bounds-out-at : goal.bounds-out-at

@@ -3,7 +3,6 @@ use native.Mathlib.Omega.{arith}
 use lib.ListN.{length-set}
 use Rattle.network_writing.proofs.Rows.{route_size}
 use Rattle.diag_writing.proofs.Wrote.{route_wrote}
-use borrow.Author.Rules.{rules}
 use Rattle.diag_writing.proofs.rows.put_route.Goals as goal
 
 pub bounds-out-at : goal.bounds-out-at

@@ -1,6 +1,5 @@
 -- `diag_writing::values::child_bytes` meets its contract.
 use Rattle.value_writing.specs.Encode.{child_bytes}
-use borrow.Author.Rules.{rules}
 use Rattle.diag_writing.proofs.values.child_bytes.Goals as goal
 
 pub returns : goal.returns

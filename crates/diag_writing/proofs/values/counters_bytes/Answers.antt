@@ -1,6 +1,5 @@
 -- `diag_writing::values::counters_bytes` meets its contract.
 use Rattle.diag_writing.proofs.Counters.{nine}
-use borrow.Author.Rules.{rules}
 use Rattle.diag_writing.proofs.values.counters_bytes.Goals as goal
 
 pub returns : goal.returns

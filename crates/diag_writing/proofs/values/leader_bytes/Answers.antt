@@ -1,7 +1,6 @@
 -- `diag_writing::values::leader_bytes` meets its contract.
 use Rattle.wire_bytes.specs.Bytes.{bytes_of}
 use Rattle.value_writing.specs.Encode.{leader_bytes}
-use borrow.Author.Rules.{rules}
 use Rattle.diag_writing.proofs.values.leader_bytes.Goals as goal
 
 pub returns : goal.returns

@@ -1,5 +1,4 @@
 -- `writing_plans::lent::children_agree` meets its contract.
-use borrow.Author.Rules.{rules}
 use borrow.Author.Tests.{eq-eqb, le-leb, lt-leb, ne_eqb}
 use Rattle.writing_plans.specs.Tests.{children_by}
 use Rattle.record_writing.specs.Fits.{passes}

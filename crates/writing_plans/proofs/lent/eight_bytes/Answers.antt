@@ -1,5 +1,4 @@
 -- `writing_plans::lent::eight_bytes` meets its contract.
-use borrow.Author.Rules.{rules}
 use Rattle.record_writing.specs.Fits.{passes}
 use Rattle.writing_plans.proofs.lent.eight_bytes.Goals as goal
 

@@ -1,5 +1,4 @@
 -- `writing_plans::lent::fits` meets its contract.
-use borrow.Author.Rules.{rules}
 use borrow.Author.Tests.{not-false, not-true}
 use mathlib.Core.Path.{◌∙◌, sym}
 use Rattle.writing_plans.specs.Tests.{fits_by}

@@ -1,5 +1,4 @@
 -- `writing_plans::lent::inside` meets its contract.
-use borrow.Author.Rules.{rules}
 use mathlib.Core.Path.{sym}
 use Rattle.writing_plans.proofs.Tested.{leb_from}
 use Rattle.writing_plans.proofs.Tested.{inside_not}

@@ -1,5 +1,4 @@
 -- `writing_plans::lent::routed` meets its contract.
-use borrow.Author.Rules.{rules}
 use Rattle.writing_plans.specs.Tests.{route_by}
 use Rattle.record_writing.specs.Fits.{passes}
 use Rattle.writing_plans.proofs.lent.routed.Goals as goal

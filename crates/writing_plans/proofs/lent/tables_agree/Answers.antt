@@ -1,5 +1,4 @@
 -- `writing_plans::lent::tables_agree` meets its contract.
-use borrow.Author.Rules.{rules}
 use Rattle.record_writing.specs.Fits.{passes}
 use Rattle.writing_plans.proofs.lent.tables_agree.Goals as goal
 

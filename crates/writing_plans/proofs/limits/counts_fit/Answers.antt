@@ -1,5 +1,4 @@
 -- `writing_plans::limits::counts_fit` meets its contract.
-use borrow.Author.Rules.{rules}
 use borrow.Author.Tests.{le-leb, lt-leb}
 use Rattle.record_writing.specs.Written.{counts_fit}
 use Rattle.record_writing.specs.Fits.{passes}

@@ -1,5 +1,4 @@
 -- `writing_plans::limits::lengths_fit` meets its contract.
-use borrow.Author.Rules.{rules}
 use borrow.Author.Tests.{not-false, not-true}
 use mathlib.Core.Path.{◌∙◌, sym}
 use Rattle.writing_plans.specs.Tests.{lengths_by}

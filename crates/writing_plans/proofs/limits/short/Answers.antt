@@ -1,5 +1,4 @@
 -- `writing_plans::limits::short` meets its contract.
-use borrow.Author.Rules.{rules}
 use Rattle.record_writing.specs.Fits.{passes}
 use Rattle.writing_plans.proofs.limits.short.Goals as goal
 

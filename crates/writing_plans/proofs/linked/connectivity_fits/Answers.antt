@@ -3,7 +3,6 @@ use mathlib.Core.Path.{sym, ap, ◌∙◌}
 use borrow.Author.Tests.{not-true, not-false}
 use Rattle.value_writing.specs.Fits.{priority_fits, connectivity_fits}
 use Rattle.writing_plans.proofs.Priority.{field_back}
-use borrow.Author.Rules.{rules}
 use Rattle.writing_plans.proofs.linked.connectivity_fits.Goals as goal
 
 pub returns-then-not-priority_fits : goal.returns-then-not-priority_fits

@@ -1,6 +1,5 @@
 -- `writing_plans::linked::late_fits` meets its contract.
 use Rattle.value_writing.specs.Fits.{late_fits}
-use borrow.Author.Rules.{rules}
 use Rattle.writing_plans.proofs.linked.late_fits.Goals as goal
 
 pub returns-in-Some-d : goal.returns-in-Some-d

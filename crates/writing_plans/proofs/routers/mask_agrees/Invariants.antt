@@ -1,13 +1,11 @@
 -- `writing_plans::routers::mask_agrees` meets its contract. The invariant: the rows from n on are the routers that are to come where all the rows are the mask's.
-use mathlib.Core.Path.{◌≡◌, sym, ap, ◌∙◌}
+use mathlib.Core.Path.{◌≡◌}
 use mathlib.Core.List.{◌∷◌}
-use Prim.Native.Nat.{ℕ, ◌+◌, ◌-◌, ◌*◌, ◌≤◌, ◌<◌}
-use native.Mathlib.Omega.{arith}
-use Rattle.diag_rules.proofs.Bits.{top, to_come, to_come_first, to_come_take, to_come_next, to_come_end}
+use Prim.Native.Nat.{◌+◌, ◌-◌, ◌*◌, ◌≤◌, ◌<◌}
+use Rattle.diag_rules.proofs.Bits.{to_come}
 use Rattle.value_writing.specs.Fits.{mask_agrees}
 use Rattle.record_writing.specs.Lent.{route_used}
-use Rattle.writing_plans.proofs.Routing.{mask_small, full_rows, mask_byte, agree, agree_start, agree_end, agree_short, agree_other, agree_hit}
-use borrow.Author.Rules.{rules}
+use Rattle.writing_plans.proofs.Routing.{agree}
 use Rattle.writing_plans.proofs.routers.mask_agrees.Given as goal
 
 abbrev pub invariant-loop-left : goal.invariant-loop-left

@@ -2,7 +2,6 @@
 use mathlib.Core.Path.{sym, ◌∙◌}
 use borrow.Author.Tests.{not-true, not-false}
 use Rattle.writing_plans.proofs.Routing.{full_rows, fits_out, fits_other, fits_rows}
-use borrow.Author.Rules.{rules}
 use Rattle.writing_plans.proofs.routers.route64_fits.Goals as goal
 
 pub returns-then-t-gt64 : goal.returns-then-t-gt64

@@ -1,14 +1,10 @@
 -- `writing_plans::routers::rows_fit` meets its contract. The invariant: the rows from n on fit where all of them do.
-use mathlib.Core.Path.{◌≡◌, sym, ◌∙◌}
+use mathlib.Core.Path.{◌≡◌}
 use Prim.Native.Nat.{◌-◌, ◌≤◌}
-use native.Mathlib.Omega.{arith}
 use lib.ListN.{take}
-use borrow.Author.Tests.{not-true, not-false}
 use Rattle.refusal.specs.Each.{all}
 use Rattle.value_writing.specs.Fits.{route_row_fits}
-use Rattle.writing_plans.proofs.Left.{left, all_start, all_end, all_fail, all_pass}
-use Rattle.writing_plans.proofs.Routing.{full_rows}
-use borrow.Author.Rules.{rules}
+use Rattle.writing_plans.proofs.Left.{left}
 use Rattle.writing_plans.proofs.routers.rows_fit.Given as goal
 
 abbrev pub invariant-loop-n : goal.invariant-loop-n

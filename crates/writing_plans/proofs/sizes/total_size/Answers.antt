@@ -1,5 +1,4 @@
 -- `writing_plans::sizes::total_size` meets its contract.
-use borrow.Author.Rules.{rules}
 use borrow.Author.Tests.{le-leb, lt-leb}
 use Rattle.writing_plans.specs.Sizes.{total_size}
 use Rattle.writing_plans.proofs.sizes.total_size.Goals as goal

@@ -1,5 +1,4 @@
 -- `writing_plans::used::children_used` meets its contract.
-use borrow.Author.Rules.{rules}
 use Rattle.writing_plans.specs.Used.{children_used}
 use Rattle.writing_plans.proofs.used.children_used.Goals as goal
 

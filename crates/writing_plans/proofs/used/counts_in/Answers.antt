@@ -1,5 +1,4 @@
 -- `writing_plans::used::counts_in` meets its contract.
-use borrow.Author.Rules.{rules}
 use Rattle.writing_plans.specs.Used.{counts_in}
 use Rattle.writing_plans.proofs.used.counts_in.Goals as goal
 

@@ -1,4 +1,0 @@
-pub mod PrefixLine
-pub mod PlanLine
-pub mod WriteLine
-pub mod LoanLine
