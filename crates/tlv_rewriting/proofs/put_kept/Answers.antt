@@ -19,8 +19,7 @@ use borrow.Enum.Refused.{opened}
 use Rattle.tlv_rewriting.proofs.put_kept.Goals as goal
 
 pub loop-ty-init : goal.loop-ty-init
-loop-ty-init c =
-    (
+loop-ty-init c = (
   search rules,
   refl,
   zero-add _,

@@ -12,12 +12,11 @@ loop-n-init c =
     (search rules, search rules, stored_start c.args.t1 c.requires (full_rows c.args.t1 _ c.well_formed.0) (full_mask c.args.t1 _ c.well_formed.0))
 
 pub loop-n-preserved : goal.loop-n-preserved
-loop-n-preserved c =
-    (
-      search rules,
-      simp length-set c.loop-n.invariant.1,
-      stored_more c.args.t1 c.requires (full_rows c.args.t1 _ c.well_formed.0) _ c.loop-n.n _ _ c.loop-n-test.true c.route_byte.ensures c.loop-n.invariant.2,
-    )
+loop-n-preserved c = (
+  search rules,
+  simp length-set c.loop-n.invariant.1,
+  stored_more c.args.t1 c.requires (full_rows c.args.t1 _ c.well_formed.0) _ c.loop-n.n _ _ c.loop-n-test.true c.route_byte.ensures c.loop-n.invariant.2,
+)
 
 pub returns : goal.returns
 returns c = stored_end c.args.t1 _ _ c.loop-n-test.false c.loop-n.invariant.2
