@@ -109,7 +109,7 @@ chosen_append m (o ∷ a) b =
 mark_append : (t best : ℕ) (a b : List OpAt) → last_mark t best (a ++ b) ≡ last_mark t (last_mark t best a) b
 unfolding last_mark
 mark_append t best [] b = refl
-mark_append t best (o ∷ a) b = mark_append t _ a b
+mark_append t best (o ∷ a) b = mark_append t (pick (eqb (about o.op) t) (mark_of o.place o.op) best) a b
 
 -- what stood before only matters where no operation is about the type
 mark_touched : (t best : ℕ) (os : List OpAt) → touches (bare os) t ≡ true → last_mark t best os ≡ last_mark t 0 os
@@ -136,14 +136,14 @@ unfolding last_mark
 stays_some t best [] h = h
 stays_some t best (o ∷ os) h =
     by_test (eqb (about o.op) t)
-    (λ f. rw f (stays_some t _ os (mark_some o.place o.op))) (λ f. rw f (stays_some t best os h))
+    (λ f. rw f (stays_some t (mark_of o.place o.op) os (mark_some o.place o.op))) (λ f. rw f (stays_some t best os h))
 
 touched_some : (t best : ℕ) (os : List OpAt) → touches (bare os) t ≡ true → 1 ≤ last_mark t best os
 unfolding last_mark touches bare
 touched_some t best [] e = absurd (let z : ◌≡◌ {A = ℕ} 0 1 = cc in omega arith)
 touched_some t best (o ∷ os) e =
     by_test (eqb (about o.op) t)
-    (λ f. rw f (stays_some t _ os (mark_some o.place o.op))) (λ f. rw f (touched_some t best os (rw f at e)))
+    (λ f. rw f (stays_some t (mark_of o.place o.op) os (mark_some o.place o.op))) (λ f. rw f (touched_some t best os (rw f at e)))
 
 -- a set's mark is left by no operation after its place
 mark_other : (p : ℕ) (x : Op) (q : ℕ) → q < p → mark_of p x ≡ q + 2 → ⊥
@@ -156,7 +156,7 @@ unfolding last_mark
 mark_after t best q lo hi [] h b n = n
 mark_after t best q lo hi (o ∷ os) h b n =
     by_test (eqb (about o.op) t)
-    (λ f. rw f (mark_after t _ q (suc o.place) hi os (omega (arith, b.0)) b.1 (mark_other o.place o.op q (omega (arith, b.0)))))
+    (λ f. rw f (mark_after t (mark_of o.place o.op) q (suc o.place) hi os (omega (arith, b.0)) b.1 (mark_other o.place o.op q (omega (arith, b.0)))))
     (λ f. rw f (mark_after t best q (suc o.place) hi os (omega (arith, b.0)) b.1 n))
 
 -- ---- a table that the operations of l left, where no mark stood before

@@ -1,5 +1,4 @@
 pub mod Held
 pub mod Plans
 pub mod Values
-pub mod Walk
 pub mod Papers

@@ -1,6 +1,6 @@
 -- The laws of the lines: their lengths, and one entry more at a time.
 -- Assumes nothing.
-use mathlib.Core.Path.{◌≡◌, sym, ap}
+use mathlib.Core.Path.{◌≡◌, refl, sym, ap}
 use mathlib.Core.List.{List, [], ◌∷◌, ◌++◌}
 use Prim.Native.Nat.{ℕ, suc, ◌+◌, ◌^◌, ◌≤◌, ◌<◌}
 use native.Mathlib.Omega.{arith}
@@ -10,7 +10,7 @@ use Rattle.tlv.specs.declared.Frame.{Frame}
 use Rattle.tlv.specs.declared.Frame.TheVariants as f
 use Rattle.tlv.specs.Entries.{Entry, Framing, framing}
 use Rattle.tlv.specs.Place.{frame_at}
-use Rattle.tlv.proofs.Walks.{from, from_start, turn_inside, turn_entries}
+use Rattle.tlv.proofs.Walks.{from, from_start, turn_inside, turn_entries, turn_end, turn_cut}
 use Rattle.text_writing.specs.Decimal.{decimal}
 use Rattle.text_writing.proofs.Decimals.{length_below}
 use Rattle.listing.specs.Listing.{pair_line, first_line, entry_lines, listing}
@@ -44,3 +44,9 @@ module _ (s : List ℕ) (at : ℕ) (r : Frame) (found : r ≡ frame_at s at) (t 
 pub lines_end : (s : List ℕ) (at : ℕ) → (from s at).entries ≡ [] → [] ≡ entry_lines (from s at).entries
 unfolding entry_lines
 lines_end s at e = sym (ap entry_lines e)
+
+-- the arm of a `match` for whatever is no entry
+pub no_entry : (s : List ℕ) (at : ℕ) (r : Frame) → r ≡ frame_at s at → ((t a n : ℕ) → r ≡ f.Entry t a n → ⊥) → (from s at).entries ≡ []
+no_entry s at f.End found never = ap (λ (w : Framing). w.entries) (turn_end s at f.End found refl)
+no_entry s at f.Cut found never = ap (λ (w : Framing). w.entries) (turn_cut s at f.Cut found refl)
+no_entry s at (f.Entry t a n) found never = absurd (never t a n refl)

@@ -3,9 +3,6 @@
 use mathlib.Core.Path.{◌≡◌, refl, sym, ap, ◌∙◌, subst}
 use mathlib.Core.Bool.{true, false}
 use mathlib.Core.List.{List, [], ◌∷◌, ◌++◌, append-nil}
-use mathlib.Core.Logic.{⊎_elim}
-use types.Run.{OneOf}
-use denote.Enum.Declared.{tag_of}
 use Prim.Native.Nat.{ℕ, zero, suc, ◌+◌, ◌-◌, ◌*◌, ◌≤◌}
 use native.Mathlib.Omega.{arith}
 use native.Mathlib.Nat.{le_refl}
@@ -21,7 +18,6 @@ use Rattle.tlv.specs.Limits.{count}
 use Rattle.tlv.specs.Place.{frame_at}
 use Rattle.tlv.specs.declared.Frame.{Frame}
 use Rattle.tlv.specs.declared.Frame.TheVariants as f
-use Rattle.tlv.specs.contracts.Frame
 use Rattle.tlv.proofs.Walks as walks
 use Rattle.tlv.proofs.Tally.{answers_given, answers_refused}
 use Rattle.network_framing.specs.Tlvs.{bytes_for, Opening, broken, opened, Walk}
@@ -55,10 +51,10 @@ module _ (k : ℕ) (s : List ℕ) (at : ℕ) where
   unfolding item_at
   item_below h r told = rw (ne_eqb _ _ h, subs.found s at (length s) r told)
 
-pub not_cut : (r : Frame) → OneOf (0 ∷ 2 ∷ []) (tag_of Frame.the_type r) → r ≡ as_entry r
-not_cut (f.Entry t a n) k = refl
-not_cut f.End k = refl
-not_cut f.Cut k = ⊎_elim (λ e. absurd (omega arith)) (λ e. absurd (omega arith)) k
+pub not_cut : (r : Frame) → (r ≡ f.Cut → ⊥) → r ≡ as_entry r
+not_cut (f.Entry t a n) never = refl
+not_cut f.End never = refl
+not_cut f.Cut never = absurd (never refl)
 
 -- ---- `holds`
 

@@ -3,7 +3,7 @@
 use mathlib.Core.Path.{◌≡◌, refl, sym, ap, ◌∙◌}
 use mathlib.Core.Bool.{Bool, true, false}
 use mathlib.Core.List.{List, [], ◌∷◌}
-use Prim.Native.Nat.{ℕ, ◌-◌, ◌≤◌, ◌<◌}
+use Prim.Native.Nat.{ℕ, ◌≤◌, ◌<◌}
 use native.Mathlib.Omega.{arith}
 use lib.ListN.{length}
 use lib.Dec.{eqb, ltb}
@@ -23,7 +23,7 @@ use Rattle.diag.specs.Diag.{raw}
 use Rattle.network_writing.specs.Encode.{network_bytes}
 use Rattle.network_writing.specs.Fits.{network_fits}
 use Rattle.network_writing.proofs.Round.{Small}
-use Rattle.network_writing.proofs.Again.{again_small as network_small, again_fits as network_fits, again_length as network_length}
+use Rattle.network_writing.proofs.Again.{again_small as network_small, again_fits as network_fits_lem, again_length as network_length}
 use Rattle.value_writing.specs.Fits.{Under}
 use Rattle.record_writing.specs.Typed.{Given}
 use Rattle.record_writing.specs.Fits.{passes}
@@ -124,4 +124,4 @@ good_network x g =
     let d = gives (λ (ps : List Prefix). x) (decode_network_data g.place x) x g.decodes in
     let same = is_contents g.place x d.one d.is in
     let e = d.is ∙ ap given same in
-    record { small = network_small g.place x (N.contents x) e; fits = network_fits g.place x (N.contents x) e g.bytes; size = network_length g.place x (N.contents x) e }
+    record { small = network_small g.place x (N.contents x) e; fits = network_fits_lem g.place x (N.contents x) e g.bytes; size = network_length g.place x (N.contents x) e }

@@ -1,11 +1,2 @@
-pub mod Elem
-pub mod FillBy
-pub mod Lends
-pub mod LendThree
+pub mod Fills
 pub mod Follows
-pub mod Scan
-pub mod Again
-pub mod PutEach
-pub mod Lines
-pub mod PutEachWithOne
-pub mod PutEachWithTwo

@@ -81,6 +81,10 @@ pub entry_size_lem : (n : ℕ) → n ≤ most_value → entry_size n ≡ size_of
 unfolding entry_size
 entry_size_lem n h = simp (le-leb _ _ h)
 
+-- the header's share of an entry that was measured
+pub header_measured : (ty n r : ℕ) → n ≤ most_value → r ≡ entry_size n → r ≡ length (header ty n) + n
+header_measured ty n r small says = omega (arith, says ∙ entry_size_lem n small, size_header ty n)
+
 module _ (t : ℕ) (v : List ℕ) where
   pub length_encode : length (encode t v) ≡ size_of (length v)
   unfolding encode

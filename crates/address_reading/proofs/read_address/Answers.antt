@@ -12,10 +12,10 @@ returns-then-count-ne8 c = rw c.refuse.ensures (emit_refused _ _ _ _ _ (sym (rea
 pub returns-then-out-lt16 : goal.returns-then-out-lt16
 returns-then-out-lt16 c =
     let is = read_given _ _ _ c.take_text-count.ensures (omega arith) in
-    rw c.refuse-then-out-lt16.ensures (emit_no_room _ _ _ is (omega (arith, c.take_text-count.auto.1.0)))
+    rw c.refuse-then-out-lt16.ensures (emit_no_room _ _ _ is (omega (arith, c.take_text-count.auto.out)))
 
 pub returns : goal.returns
 returns c =
     let is = read_given _ _ _ c.take_text-count.ensures (omega arith) in
-    let long = c.take_text-count.auto.1.0 in
+    let long = c.take_text-count.auto.out in
     emit_done _ _ _ is _ _ (sym long) (placed_left _ _ _ _ _ c.put_bytes.ensures (omega arith)) (omega arith)

@@ -22,5 +22,5 @@ returns-then-r-l c = sides_not _ _ (omega (arith, c.take_groups-l.ensures.counts
 pub returns : goal.returns
 unfolding of_eight
 returns c =
-    let long = c.take_groups-l.auto.1.0 ∙ ap length c.requires in
+    let long = c.take_groups-l.auto.out ∙ ap length c.requires in
     sides_read _ _ _ _ _ _ _ c.requires c.take_groups-l.ensures c.take_groups-r.ensures (omega arith) _ _ _ (omega arith) long c.put_bytes.ensures

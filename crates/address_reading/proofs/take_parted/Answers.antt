@@ -12,7 +12,7 @@ pub loop-i-init : goal.loop-i-init
 loop-i-init c = (omega arith, omega arith, refl, going_start _ _)
 
 pub shape_of-out-then-count-eq-NO_GROUPS : goal.shape_of-out-then-count-eq-NO_GROUPS
-shape_of-out-then-count-eq-NO_GROUPS c = c.end_group-count.auto.1.1.0 ∙ c.loop-i.invariant.2
+shape_of-out-then-count-eq-NO_GROUPS c = c.end_group-count.auto.out ∙ c.loop-i.invariant.2
 
 pub returns-then-count-eq-NO_GROUPS : goal.returns-then-count-eq-NO_GROUPS
 returns-then-count-eq-NO_GROUPS c =
@@ -23,7 +23,7 @@ pub loop-i-preserved-then-c-eq58 : goal.loop-i-preserved-then-c-eq58
 loop-i-preserved-then-c-eq58 c =
     let l = c.loop-i in
     let g = going_colon _ _ _ _ _ _ l.i l.invariant.3 (omega arith) (omega arith) _ _ c.end_group-count.ensures (λ z. omega arith) in
-    (omega arith, g.0, c.end_group-count.auto.1.1.0 ∙ l.invariant.2, g.1)
+    (omega arith, g.0, c.end_group-count.auto.out ∙ l.invariant.2, g.1)
 
 pub shape_of-out-then-d-eq16 : goal.shape_of-out-then-d-eq16
 shape_of-out-then-d-eq16 c = c.loop-i.invariant.2
@@ -52,7 +52,7 @@ loop-i-preserved c =
     (omega arith, omega arith, l.invariant.2, g)
 
 pub shape_of-out : goal.shape_of-out
-shape_of-out c = c.end_group.auto.1.1.0 ∙ c.loop-i.invariant.2
+shape_of-out c = c.end_group.auto.out ∙ c.loop-i.invariant.2
 
 pub returns : goal.returns
 returns c =

@@ -14,7 +14,7 @@ put_parted-at-requires c =
 pub bounds-out-at : goal.bounds-out-at
 bounds-out-at c =
     let a = c.args in
-    omega (arith, around_length a.address.now a.start a.len, c.put_parted-at.ensures.0, c.put_parted-at.auto.1.0)
+    omega (arith, around_length a.address.now a.start a.len, c.put_parted-at.ensures.0, c.put_parted-at.auto.out)
 
 pub overflow_add-out : goal.overflow_add-out
 overflow_add-out c =
@@ -24,7 +24,7 @@ overflow_add-out c =
 pub bounds-out-at-2 : goal.bounds-out-at-2
 bounds-out-at-2 c =
     let a = c.args in
-    simp length-set (omega (arith, around_length a.address.now a.start a.len, c.put_parted-at.ensures.0, c.put_parted-at.auto.1.0))
+    simp length-set (omega (arith, around_length a.address.now a.start a.len, c.put_parted-at.ensures.0, c.put_parted-at.auto.out))
 
 pub overflow_add-at : goal.overflow_add-at
 overflow_add-at c =
@@ -34,10 +34,10 @@ overflow_add-at c =
 pub put_parted-requires : goal.put_parted-requires
 put_parted-requires c =
     let a = c.args in
-    simp length-set (omega (arith, around_length a.address.now a.start a.len, c.put_parted-at.ensures.0, c.put_parted-at.auto.1.0))
+    simp length-set (omega (arith, around_length a.address.now a.start a.len, c.put_parted-at.ensures.0, c.put_parted-at.auto.out))
 
 pub shape_of-out : goal.shape_of-out
-shape_of-out c = c.put_parted.auto.1.0 ∙ simp length-set c.put_parted-at.auto.1.0
+shape_of-out c = c.put_parted.auto.out ∙ simp length-set c.put_parted-at.auto.out
 
 pub returns : goal.returns
 returns c =

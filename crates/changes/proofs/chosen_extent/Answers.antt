@@ -15,7 +15,6 @@ use Rattle.change_lists.proofs.Places.{turn_none, set_within, removal_inside, se
 use Rattle.changes.proofs.Turns.{chosen_from, chosen_start, chosen_end, chosen_set, chosen_not, chosen_removal}
 use Rattle.tlv_writing.proofs.Several.{encode_none}
 use Rattle.changes.proofs.Writes.{all_length, extent_is}
-use borrow.Enum.Refused.{opened}
 use Rattle.changes.proofs.chosen_extent.Goals as goal
 
 pub loop-ty-init : goal.loop-ty-init
@@ -48,7 +47,7 @@ loop-ty-preserved-then-marks-ty c =
     let inside = set_within _ _ _ found _ _ _ c.in-Set.is in
     let n = c.in-Set.len in
     let a = c.args in
-    let more = chosen_set a.t2 _ _ _ _ _ _ (set_ops _ _ _ found _ _ _ c.in-Set.is) c.if-marks-ty.true in
+    let more = chosen_set a.marks _ _ _ _ _ _ (set_ops _ _ _ found _ _ _ c.in-Set.is) c.if-marks-ty.true in
     omega (arith, size_bound n, all_length a.list.now _ _ n _ _ more inside.1, ap length more, c.entry_size-bytes.ensures ∙ entry_size_lem n (omega arith))
 
 pub loop-ty-smaller-else-marks-ty : goal.loop-ty-smaller-else-marks-ty
@@ -58,7 +57,7 @@ pub loop-ty-preserved-else-marks-ty : goal.loop-ty-preserved-else-marks-ty
 loop-ty-preserved-else-marks-ty c =
     let found = c.operation_at.ensures in
     let inside = set_within _ _ _ found _ _ _ c.in-Set.is in
-    let skip = chosen_not c.args.t2 _ _ _ _ _ _ (set_ops _ _ _ found _ _ _ c.in-Set.is) c.if-marks-ty.false in
+    let skip = chosen_not c.args.marks _ _ _ _ _ _ (set_ops _ _ _ found _ _ _ c.in-Set.is) c.if-marks-ty.false in
     omega (arith, ap length skip, ap (λ (cs : List Content). length (encode_all cs)) skip)
 
 pub overflow_add-at : goal.overflow_add-at
@@ -72,13 +71,13 @@ loop-ty-preserved c =
     let found = c.operation_at.ensures in
     let inside = removal_inside _ _ _ found _ c.in-Remove.is in
     let a = c.args in
-    let skip = chosen_removal a.t2 a.base _ _ _ _ (removal_ops _ _ _ found _ c.in-Remove.is) in
+    let skip = chosen_removal a.marks a.base _ _ _ _ (removal_ops _ _ _ found _ c.in-Remove.is) in
     omega (arith, ap length skip, ap (λ (cs : List Content). length (encode_all cs)) skip)
 
 pub returns-in_default : goal.returns-in_default
 returns-in_default c =
     let a = c.args in
-    let none = chosen_end a.t2 a.base _ _ (turn_none _ _ _ c.operation_at.ensures (opened c.in_default.in_default-own.keys3)) in
+    let none = chosen_end a.marks a.base _ _ (turn_none _ _ _ c.operation_at.ensures c.in_default.in_default-own.keys3) in
     let bytes = ap length (ap encode_all none ∙ encode_none) in
     let entries = ap length none in
-    (extent_is _ _ (chosen_from a.t2 a.base a.list.now 0) (omega arith) (omega arith) ∙ ap extent_of (chosen_start _ _ _), omega arith, omega arith)
+    (extent_is _ _ (chosen_from a.marks a.base a.list.now 0) (omega arith) (omega arith) ∙ ap extent_of (chosen_start _ _ _), omega arith, omega arith)

@@ -13,11 +13,11 @@ loop-t-init c = (search rules, search rules, sym (gone_none _))
 
 pub loop-t-preserved-then-marks-t-eq1 : goal.loop-t-preserved-then-marks-t-eq1
 loop-t-preserved-then-marks-t-eq1 c =
-    (omega arith, omega (arith, c.loop-t.invariant), omega (arith, gone_count c.args.t1 _ c.if-marks-t-eq1.true, c.loop-t.invariant.2))
+    (omega arith, omega (arith, c.loop-t.invariant), omega (arith, gone_count c.args.marks _ c.if-marks-t-eq1.true, c.loop-t.invariant.2))
 
 pub loop-t-preserved : goal.loop-t-preserved
 loop-t-preserved c =
-    (omega arith, omega (arith, c.loop-t.invariant), c.loop-t.invariant.2 ∙ ap length (sym (gone_skip c.args.t1 _ c.if-marks-t-eq1.false)))
+    (omega arith, omega (arith, c.loop-t.invariant), c.loop-t.invariant.2 ∙ ap length (sym (gone_skip c.args.marks _ c.if-marks-t-eq1.false)))
 
 pub returns : goal.returns
 returns c =

@@ -6,7 +6,6 @@ use lib.ListN.{length}
 use borrow.Author.Rules.{rules}
 use Rattle.change_lists.proofs.Places.{turn_none, set_within, removal_inside, set_ops, removal_ops}
 use Rattle.changes.proofs.Turns.{Going, going_start, going_set, going_removal, going_end}
-use borrow.Enum.Refused.{opened}
 use Rattle.changes.proofs.mark.Goals as goal
 
 pub loop-ty-init : goal.loop-ty-init
@@ -46,5 +45,5 @@ loop-ty-preserved c =
 
 pub returns-in_default : goal.returns-in_default
 returns-in_default c =
-    let none = turn_none _ _ _ c.operation_at.ensures (opened c.in_default.in_default-own.keys3) in
+    let none = turn_none _ _ _ c.operation_at.ensures c.in_default.in_default-own.keys3 in
     going_end _ _ _ _ _ none c.loop-ty.invariant.1

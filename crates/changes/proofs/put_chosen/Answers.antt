@@ -13,7 +13,6 @@ use Rattle.changes.specs.Loops.{encode_sets}
 use Rattle.change_lists.proofs.Places.{turn_none, set_within, removal_inside, set_ops, removal_ops}
 use Rattle.changes.proofs.Turns.{chosen_from, chosen_start, chosen_end, chosen_set, chosen_not, chosen_removal}
 use Rattle.changes.proofs.Writes.{sets_none, sets_more, sets_length_more}
-use borrow.Enum.Refused.{opened}
 use Rattle.changes.proofs.put_chosen.Goals as goal
 
 pub loop-ty-init : goal.loop-ty-init
@@ -37,7 +36,7 @@ put_set-to-requires c =
     let inside = set_within _ _ _ found _ _ _ c.in-Set.is in
     let a = c.in-Set.start in
     let n = c.in-Set.len in
-    let more = chosen_set c.args.t2 _ _ _ _ _ _ (set_ops _ _ _ found _ _ _ c.in-Set.is) c.if-marks-ty.true in
+    let more = chosen_set c.args.marks _ _ _ _ _ _ (set_ops _ _ _ found _ _ _ c.in-Set.is) c.if-marks-ty.true in
     let room = rw (← chosen_start _ _ _) at c.requires.2 in
     let short = length_part c.args.list.now a n inside.1 in
     simp add-sub_cancel_left (omega (arith, short), omega (arith, sets_length_more c.args.marked _ _ _ more, room, c.loop-ty.invariant))
@@ -49,10 +48,10 @@ pub loop-ty-preserved-then-marks-ty : goal.loop-ty-preserved-then-marks-ty
 loop-ty-preserved-then-marks-ty c =
     let found = c.operation_at.ensures in
     let inside = set_within _ _ _ found _ _ _ c.in-Set.is in
-    let more = chosen_set c.args.t2 _ _ _ _ _ _ (set_ops _ _ _ found _ _ _ c.in-Set.is) c.if-marks-ty.true in
+    let more = chosen_set c.args.marks _ _ _ _ _ _ (set_ops _ _ _ found _ _ _ c.in-Set.is) c.if-marks-ty.true in
     let told = simp add-sub_cancel_left at c.put_set-to.ensures in (
       inside.1,
-      c.put_set-to.auto.1.1.1.0 ∙ c.loop-ty.invariant.1,
+      c.put_set-to.auto.out ∙ c.loop-ty.invariant.1,
       omega (arith, sets_length_more c.args.marked _ _ _ more, told.0, c.loop-ty.invariant.2),
       put_then _ _ _ _ _ _ told.1 told.0 ∙ ap (put _ _) (sym (ap (encode_sets _) more ∙ sets_more _ _ _)) ∙ c.loop-ty.invariant.3,
     )
@@ -63,7 +62,7 @@ loop-ty-smaller-else-marks-ty c = omega (arith, set_within _ _ _ c.operation_at.
 pub loop-ty-preserved-else-marks-ty : goal.loop-ty-preserved-else-marks-ty
 loop-ty-preserved-else-marks-ty c =
     let found = c.operation_at.ensures in
-    let skip = chosen_not c.args.t2 _ _ _ _ _ _ (set_ops _ _ _ found _ _ _ c.in-Set.is) c.if-marks-ty.false in
+    let skip = chosen_not c.args.marks _ _ _ _ _ _ (set_ops _ _ _ found _ _ _ c.in-Set.is) c.if-marks-ty.false in
     let same = ap (encode_sets c.args.marked) skip in (
       (set_within _ _ _ found _ _ _ c.in-Set.is).1,
       c.loop-ty.invariant.1,
@@ -81,7 +80,7 @@ pub loop-ty-preserved : goal.loop-ty-preserved
 loop-ty-preserved c =
     let found = c.operation_at.ensures in
     let a = c.args in
-    let skip = chosen_removal a.t2 a.base _ _ _ _ (removal_ops _ _ _ found _ c.in-Remove.is) in
+    let skip = chosen_removal a.marks a.base _ _ _ _ (removal_ops _ _ _ found _ c.in-Remove.is) in
     let same = ap (encode_sets a.marked) skip in (
       removal_inside _ _ _ found _ c.in-Remove.is,
       c.loop-ty.invariant.1,
@@ -95,8 +94,8 @@ shape_of-out-in_default c = c.loop-ty.invariant.1
 pub returns-in_default : goal.returns-in_default
 returns-in_default c =
     let a = c.args in
-    let none = ap (encode_sets a.marked) (chosen_end a.t2 a.base _ _ (turn_none _ _ _ c.operation_at.ensures (opened c.in_default.in_default-own.keys3))) ∙ sets_none _ in
-    let all = ap (encode_sets a.marked) (chosen_start a.t2 a.base a.list.now) in (
+    let none = ap (encode_sets a.marked) (chosen_end a.marks a.base _ _ (turn_none _ _ _ c.operation_at.ensures c.in_default.in_default-own.keys3)) ∙ sets_none _ in
+    let all = ap (encode_sets a.marked) (chosen_start a.marks a.base a.list.now) in (
       omega (arith, ap length none, ap length all, c.loop-ty.invariant.2),
       sym (put_none _ _) ∙ ap (put _ _) (sym none) ∙ c.loop-ty.invariant.3 ∙ ap (put _ _) all,
     )

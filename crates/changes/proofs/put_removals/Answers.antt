@@ -16,24 +16,24 @@ loop-t-init c = (search rules, refl, sym (ap length (gone_start _)), sym (ap (pu
 
 pub bounds-out-to : goal.bounds-out-to
 bounds-out-to c =
-    let m = c.args.t1 in
+    let m = c.args.marks in
     omega (arith, c.loop-t.invariant, gone_bytes m c.loop-t.t, gone_count m c.loop-t.t c.if-marks-t-eq1.true, gone_grows m (c.loop-t.t + 1) (omega arith), c.requires)
 
 pub bounds-out-to-then-marks-t-eq1 : goal.bounds-out-to-then-marks-t-eq1
 bounds-out-to-then-marks-t-eq1 c =
-    let m = c.args.t1 in
+    let m = c.args.marks in
     simp length-set
     (omega (arith, c.loop-t.invariant, gone_bytes m c.loop-t.t, gone_count m c.loop-t.t c.if-marks-t-eq1.true, gone_grows m (c.loop-t.t + 1) (omega arith), c.requires))
 
 pub bounds-out-to-then-marks-t-eq1-2 : goal.bounds-out-to-then-marks-t-eq1-2
 bounds-out-to-then-marks-t-eq1-2 c =
-    let m = c.args.t1 in
+    let m = c.args.marks in
     simp length-set
     (omega (arith, c.loop-t.invariant, gone_bytes m c.loop-t.t, gone_count m c.loop-t.t c.if-marks-t-eq1.true, gone_grows m (c.loop-t.t + 1) (omega arith), c.requires))
 
 pub loop-t-preserved-then-marks-t-eq1 : goal.loop-t-preserved-then-marks-t-eq1
 loop-t-preserved-then-marks-t-eq1 c =
-    let m = c.args.t1 in
+    let m = c.args.marks in
     let t = c.loop-t.t in (
       omega arith,
       simp length-set c.loop-t.invariant.1,
@@ -44,7 +44,7 @@ loop-t-preserved-then-marks-t-eq1 c =
 
 pub loop-t-preserved : goal.loop-t-preserved
 loop-t-preserved c =
-    let same = ap encode_ops (gone_skip c.args.t1 _ c.if-marks-t-eq1.false) in
+    let same = ap encode_ops (gone_skip c.args.marks _ c.if-marks-t-eq1.false) in
     (omega arith, c.loop-t.invariant.1, c.loop-t.invariant.2 ∙ ap length (sym same), c.loop-t.invariant.3 ∙ ap (put _ _) (sym same), omega (arith, c.loop-t.invariant.4))
 
 pub shape_of-out : goal.shape_of-out

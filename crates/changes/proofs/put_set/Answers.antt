@@ -20,7 +20,7 @@ bounds-out-at-then-marked c =
     simp length-set (omega (arith, room, set_length (content c.args.ty c.args.value.now)))
 
 pub shape_of-out-then-marked : goal.shape_of-out-then-marked
-shape_of-out-then-marked c = simp length-set at c.put_entry.auto.1.1.0
+shape_of-out-then-marked c = simp length-set at c.put_entry.auto.out
 
 pub returns-then-marked : goal.returns-then-marked
 returns-then-marked c =

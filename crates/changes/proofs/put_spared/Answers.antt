@@ -37,7 +37,7 @@ loop-ty-preserved-then-marks-ty-eq0 c =
     let s = c.args.s.now in
     let a = c.in-Entry.start in
     let n = c.in-Entry.len in
-    let keep = spared_keep c.args.t2 _ _ _ _ n (turn_entries _ _ _ found _ _ _ c.in-Entry.is) c.if-marks-ty-eq0.true in
+    let keep = spared_keep c.args.marks _ _ _ _ n (turn_entries _ _ _ found _ _ _ c.in-Entry.is) c.if-marks-ty-eq0.true in
     let room = rw (← spared_start _ _) at c.requires.1 in
     let short = length_part s a n inside.1 in
     let size = size_part s c.in-Entry.ty a n inside.1 in
@@ -46,7 +46,7 @@ loop-ty-preserved-then-marks-ty-eq0 c =
     let next = placed_next _ _ _ _ _ told (omega (arith, size, more, room, c.loop-ty.invariant)) in
     let left = placed_left _ _ _ _ _ told (omega (arith, size, more, room, c.loop-ty.invariant)) in (
       inside.1,
-      c.put_entry-to.auto.1.1.0 ∙ c.loop-ty.invariant.1,
+      c.put_entry-to.auto.out ∙ c.loop-ty.invariant.1,
       omega arith,
       put_then _ _ _ _ _ _ left next ∙ ap (put _ _) (sym (ap encode_all keep ∙ encode_more _ _)) ∙ c.loop-ty.invariant.3,
     )
@@ -57,7 +57,7 @@ loop-ty-smaller c = omega (arith, turn_inside _ _ _ c.frame_at.ensures _ _ _ c.i
 pub loop-ty-preserved : goal.loop-ty-preserved
 loop-ty-preserved c =
     let found = c.frame_at.ensures in
-    let skip = spared_skip c.args.t2 _ _ _ _ c.in-Entry.len (turn_entries _ _ _ found _ _ _ c.in-Entry.is) c.if-marks-ty-eq0.false in
+    let skip = spared_skip c.args.marks _ _ _ _ c.in-Entry.len (turn_entries _ _ _ found _ _ _ c.in-Entry.is) c.if-marks-ty-eq0.false in
     let same = ap encode_all skip in (
       (turn_inside _ _ _ found _ _ _ c.in-Entry.is).1,
       c.loop-ty.invariant.1,
@@ -71,8 +71,8 @@ shape_of-out-in_default c = c.loop-ty.invariant.1
 pub returns-in_default : goal.returns-in_default
 returns-in_default c =
     let a = c.args in
-    let none = ap encode_all (spared_end a.t2 _ _ (turn_none _ _ _ c.frame_at.ensures (opened c.in_default.in_default-own.keys2))) ∙ encode_none in
-    let all = ap encode_all (spared_start a.t2 a.s.now) in (
+    let none = ap encode_all (spared_end a.marks _ _ (turn_none _ _ _ c.frame_at.ensures (opened c.in_default.in_default-own.keys2))) ∙ encode_none in
+    let all = ap encode_all (spared_start a.marks a.s.now) in (
       omega (arith, ap length none, ap length all),
       sym (put_none _ _) ∙ ap (put _ _) (sym none) ∙ c.loop-ty.invariant.3 ∙ ap (put _ _) all,
     )

@@ -41,7 +41,7 @@ loop-ty-preserved-then-marks-ty-eq0 c =
     let inside = turn_inside _ _ _ found _ _ _ c.in-Entry.is in
     let n = c.in-Entry.len in
     let a = c.args in
-    let keep = spared_keep a.t2 _ _ _ _ n (turn_entries _ _ _ found _ _ _ c.in-Entry.is) c.if-marks-ty-eq0.true in
+    let keep = spared_keep a.marks _ _ _ _ n (turn_entries _ _ _ found _ _ _ c.in-Entry.is) c.if-marks-ty-eq0.true in
     omega (arith, size_bound n, all_length a.s.now _ _ n _ _ keep inside.1, ap length keep, c.entry_size-bytes.ensures ∙ entry_size_lem n (omega arith))
 
 pub loop-ty-smaller : goal.loop-ty-smaller
@@ -51,13 +51,13 @@ pub loop-ty-preserved : goal.loop-ty-preserved
 loop-ty-preserved c =
     let found = c.frame_at.ensures in
     let inside = turn_inside _ _ _ found _ _ _ c.in-Entry.is in
-    let skip = spared_skip c.args.t2 _ _ _ _ c.in-Entry.len (turn_entries _ _ _ found _ _ _ c.in-Entry.is) c.if-marks-ty-eq0.false in
+    let skip = spared_skip c.args.marks _ _ _ _ c.in-Entry.len (turn_entries _ _ _ found _ _ _ c.in-Entry.is) c.if-marks-ty-eq0.false in
     omega (arith, ap length skip, ap (λ (cs : List Content). length (encode_all cs)) skip)
 
 pub returns-in_default : goal.returns-in_default
 returns-in_default c =
     let a = c.args in
-    let none = spared_end a.t2 _ _ (turn_none _ _ _ c.frame_at.ensures (opened c.in_default.in_default-own.keys2)) in
+    let none = spared_end a.marks _ _ (turn_none _ _ _ c.frame_at.ensures (opened c.in_default.in_default-own.keys2)) in
     let bytes = ap length (ap encode_all none ∙ encode_none) in
     let entries = ap length none in
-    (extent_is _ _ (spared_from a.t2 a.s.now 0) (omega arith) (omega arith) ∙ ap extent_of (spared_start _ _), omega arith, omega arith)
+    (extent_is _ _ (spared_from a.marks a.s.now 0) (omega arith) (omega arith) ∙ ap extent_of (spared_start _ _), omega arith, omega arith)

@@ -17,7 +17,7 @@ pub bounds-out-1 : goal.bounds-out-1
 bounds-out-1 c = simp length-set (omega arith)
 
 pub shape_of-out : goal.shape_of-out
-shape_of-out c = c.put_bytes.auto.1.0 ∙ simp length-set
+shape_of-out c = c.put_bytes.auto.out ∙ simp length-set
 
 pub returns : goal.returns
 returns c = item_emitted _ _ _ _ _ c.put_bytes.ensures (omega arith) (omega arith)

@@ -3,7 +3,6 @@ use native.Mathlib.Omega.{arith}
 use borrow.Author.Tests.{lt-leb}
 use Rattle.connectivity.specs.Connectivity.{buffer_of}
 use Rattle.connectivity.proofs.Late.{buffer_is}
-use borrow.Author.Rules.{rules}
 use Rattle.connectivity.proofs.buffer_size.Goals as goal
 
 pub returns-then-v-lt10 : goal.returns-then-v-lt10

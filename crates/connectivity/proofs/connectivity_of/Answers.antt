@@ -3,10 +3,9 @@ use mathlib.Core.Path.{◌∙◌}
 use mir.ValLaws.{to_z-of_z}
 use mir.Syntax.{w8}
 use Rattle.connectivity.proofs.Late.{connectivity_is}
-use borrow.Author.Rules.{rules}
 use Rattle.connectivity.proofs.connectivity_of.Goals as goal
 
 pub returns : goal.returns
 returns c =
-    let first = to_z-of_z w8 c.priority-first.result (record { sfits = c.priority-first.type-inv }) ∙ c.priority-first.ensures in
+    let first = to_z-of_z w8 c.priority-first.result (record { sfits = c.priority-first.type_inv }) ∙ c.priority-first.ensures in
     connectivity_is _ _ _ _ first c.buffer_size-size.ensures c.datagram_count-count.ensures

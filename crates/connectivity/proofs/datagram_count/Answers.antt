@@ -1,7 +1,6 @@
 -- `connectivity::datagram_count` meets its contract.
 use borrow.Author.Tests.{le-leb, lt-leb}
 use Rattle.connectivity.specs.Connectivity.{datagrams_of}
-use borrow.Author.Rules.{rules}
 use Rattle.connectivity.proofs.datagram_count.Goals as goal
 
 pub returns-then-v-lt10 : goal.returns-then-v-lt10

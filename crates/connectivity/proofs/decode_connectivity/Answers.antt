@@ -3,7 +3,6 @@ use mathlib.Core.Path.{sym, ap, ◌∙◌}
 use Rattle.connectivity.specs.Connectivity.{connectivity_of}
 use Rattle.diag_rules.specs.Answers.{judged_answer}
 use Rattle.diag_rules.proofs.Kept.{read_kept, read_refused, connectivity_size}
-use borrow.Author.Rules.{rules}
 use Rattle.connectivity.proofs.decode_connectivity.Goals as goal
 
 pub connectivity_of-requires : goal.connectivity_of-requires

@@ -1,12 +1,8 @@
 -- `copying::copy` meets its contract. The invariant: what is left of src, stored from here on, makes of dst what all of src makes of it.
-use mathlib.Core.Path.{◌≡◌, refl, sym, ap, ◌∙◌}
+use mathlib.Core.Path.{◌≡◌}
 use Prim.Native.Nat.{◌+◌, ◌-◌, ◌≤◌}
-use native.Mathlib.Omega.{arith}
-use native.Mathlib.Nat.{add-zero}
-use lib.ListN.{length, drop, length-set, drop_of_length-le}
-use borrow.Author.Rules.{rules}
+use lib.ListN.{length, drop}
 use Rattle.refusal.specs.Output.{put}
-use Rattle.laws.proofs.Puts.{put_none, put_next}
 use Rattle.copying.proofs.copy.Given as goal
 
 abbrev pub invariant-loop-i : goal.invariant-loop-i

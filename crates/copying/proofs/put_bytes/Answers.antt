@@ -2,7 +2,6 @@
 use mathlib.Core.Path.{sym}
 use native.Mathlib.Omega.{arith}
 use Rattle.laws.proofs.Emits.{placed_fits, placed_not}
-use borrow.Author.Rules.{rules}
 use Rattle.copying.proofs.put_bytes.Goals as goal
 
 pub returns-then-at-out : goal.returns-then-at-out

@@ -4,7 +4,6 @@ use native.Mathlib.Omega.{arith}
 use native.Mathlib.Nat.{add-sub_cancel_left}
 use Rattle.plain_values.specs.Plain.{zeros, copied}
 use Rattle.dataset.proofs.Finds.{found_inside, query_whole, query_none, query_refused}
-use borrow.Author.Rules.{rules}
 use Rattle.dataset.proofs.array_8.Goals as goal
 
 pub overflow_add-start : goal.overflow_add-start

@@ -3,7 +3,6 @@ use mathlib.Core.Path.{refl, ◌∙◌}
 use native.Mathlib.Omega.{arith}
 use native.Mathlib.Nat.{add-sub_cancel_left}
 use Rattle.dataset.proofs.Finds.{found_inside, query_found, query_none, query_refused}
-use borrow.Author.Rules.{rules}
 use Rattle.dataset.proofs.channel.Goals as goal
 
 pub overflow_add-start : goal.overflow_add-start

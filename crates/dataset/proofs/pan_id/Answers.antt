@@ -4,7 +4,6 @@ use native.Mathlib.Omega.{arith}
 use native.Mathlib.Nat.{add-sub_cancel_left}
 use Rattle.wire.specs.Be.{fixed}
 use Rattle.dataset.proofs.Finds.{found_inside, query_found, query_none, query_refused}
-use borrow.Author.Rules.{rules}
 use Rattle.dataset.proofs.pan_id.Goals as goal
 
 pub overflow_add-start : goal.overflow_add-start

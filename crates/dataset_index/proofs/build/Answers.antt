@@ -26,7 +26,7 @@ pub returns-in-Refused : goal.returns-in-Refused
 returns-in-Refused c = emit_refused _ _ _ _ _ (built_refused _ _ _ _ (sym (ap counted_answer c.in-Refused.is) ∙ c.collect-walk.ensures.1))
 
 pub shape_of-out : goal.shape_of-out
-shape_of-out c = c.put_slots.auto.1.0 ∙ simp length-set
+shape_of-out c = c.put_slots.auto.out ∙ simp length-set
 
 pub returns-else-out-lt-INDEX_BYTES : goal.returns-else-out-lt-INDEX_BYTES
 returns-else-out-lt-INDEX_BYTES c =

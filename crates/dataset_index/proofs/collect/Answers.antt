@@ -50,8 +50,8 @@ loop-ty-preserved c =
       inside.1,
       omega (arith, inside),
       elim c.if-n-eq-MAX_ENTRIES.branch [
-        then-n-eq-MAX_ENTRIES w ↦ rw w.over-is (sym (tally_at _ _ _ _ w.if-n-eq-MAX_ENTRIES.true _) ∙ goes_on)
-      | else-n-eq-MAX_ENTRIES w ↦ rw w.over-is (sym (tally_off _ _ _ _ w.if-n-eq-MAX_ENTRIES.false _) ∙ goes_on)
+        | then-n-eq-MAX_ENTRIES w ↦ rw w.over-is (sym (tally_at _ _ _ _ w.if-n-eq-MAX_ENTRIES.true _) ∙ goes_on)
+        | else-n-eq-MAX_ENTRIES w ↦ rw w.over-is (sym (tally_off _ _ _ _ w.if-n-eq-MAX_ENTRIES.false _) ∙ goes_on)
       ],
       find_more _ _ _ _ _ _ _ _ _ _ (omega (arith, inside)) entries c.loop-ty.invariant.3 small,
     )

@@ -5,7 +5,7 @@ use native.Mathlib.Nat.{add-sub_cancel_left}
 use Rattle.tlv_last.specs.Answers.{found_answer}
 use Rattle.tlv_last.proofs.Papers.{no_spot}
 use Rattle.dataset_index.proofs.Queries.{value_inside, value_part, value_none}
-use borrow.Author.Rules.{rules}
+use borrow.Enum.Refused.{opened}
 use Rattle.dataset_index.proofs.last_value.Goals as goal
 
 pub overflow_add-result : goal.overflow_add-result
@@ -18,4 +18,4 @@ pub returns-in-At : goal.returns-in-At
 returns-in-At c = simp add-sub_cancel_left (value_part _ _ _ _ _ _ (sym (ap found_answer c.in-At.is) ∙ c.last_entry.ensures))
 
 pub returns-in_default : goal.returns-in_default
-returns-in_default c = value_none _ _ _ _ c.last_entry.ensures (no_spot c.last_entry.result c.in-At.keys2)
+returns-in_default c = value_none _ _ _ _ c.last_entry.ensures (no_spot c.last_entry.result (opened c.in_default.in_default-own.keys2))

@@ -18,15 +18,15 @@ pub put_u16-middle-requires : goal.put_u16-middle-requires
 put_u16-middle-requires c = omega arith
 
 pub put_u16-at-requires : goal.put_u16-at-requires
-put_u16-at-requires c = omega (arith, c.put_u16-middle.ensures.0, c.put_u16-middle.auto)
+put_u16-at-requires c = omega (arith, c.put_u16-middle.ensures.0, c.put_u16-middle.auto.out)
 
 pub loop-t-preserved : goal.loop-t-preserved
 loop-t-preserved c =
-    let x = c.args.t1 in
+    let x = c.args.x in
     let t = c.loop-t.t in
     let inv = c.loop-t.invariant in (
       search rules,
-      c.put_u16-at.auto.1.0 ∙ c.put_u16-middle.auto.1.0 ∙ inv.1,
+      c.put_u16-at.auto.out ∙ c.put_u16-middle.auto.out ∙ inv.1,
       omega (arith, c.put_u16-middle.ensures.0, c.put_u16-at.ensures.0),
       put_then _ _ _ _ _ _ c.put_u16-at.ensures.1 (c.put_u16-at.ensures.0 ∙ ap (◌+◌ _) (sym (length_bytes 2 _)))
           ∙ put_then _ _ _ _ _ _ c.put_u16-middle.ensures.1 (c.put_u16-middle.ensures.0 ∙ ap (◌+◌ _) (sym (length_bytes 2 _)))
@@ -39,6 +39,6 @@ shape_of-out c = c.loop-t.invariant.1
 
 pub returns : goal.returns
 returns c =
-    let x = c.args.t1 in
+    let x = c.args.x in
     let t = c.loop-t.t in
     sym (put_none _ _) ∙ ap (put _ _) (sym (slots_end x.count x.place t (256 - t) (omega arith))) ∙ c.loop-t.invariant.3

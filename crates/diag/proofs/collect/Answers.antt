@@ -41,48 +41,22 @@ u16_in-requires-2 c = last_inside _ 15 _ (c.found_at-9.ensures ∙ c.find_all-p.
 
 pub returns : goal.returns
 returns c =
-    let at-part-at7 = c in
-    let at-part-at6 = at-part-at7.before in
-    let at-part-at5 = at-part-at6.before in
-    let at-part-at4 = at-part-at5.before in
-    let at-u16-in2 = at-part-at4.before in
-    let at-found-at9 = at-u16-in2.before in
-    let at-u8-in = at-found-at9.before in
-    let at-found-at8 = at-u8-in.before in
-    let at-mac-counters-in = at-found-at8.before in
-    let at-found-at7 = at-mac-counters-in.before in
-    let at-part-at3 = at-found-at7.before in
-    let at-network-data-in = at-part-at3.before in
-    let at-found-at6 = at-network-data-in.before in
-    let at-leader-data-in = at-found-at6.before in
-    let at-found-at5 = at-leader-data-in.before in
-    let at-part-at2 = at-found-at5.before in
-    let at-connectivity-in = at-part-at2.before in
-    let at-found-at4 = at-connectivity-in.before in
-    let at-u32-in = at-found-at4.before in
-    let at-found-at3 = at-u32-in.before in
-    let at-mode-in = at-found-at3.before in
-    let at-found-at2 = at-mode-in.before in
-    let at-u16-in = at-found-at2.before in
-    let at-found-at = at-u16-in.before in
-    let at-part-at = at-found-at.before in
-    let at-find-all = at-part-at.before in
-    let located = at-find-all.find-all.ensures.is in
+    let located = c.find_all-p.ensures.is in
     made _ _
-    (at-part-at.part_at.ensures ∙ ap (on_given part_of) (located 0 (lit< tt)))
-    (at-u16-in.u16-in.ensures ∙ ap (read_at 1 be _) (at-found-at.found_at.ensures ∙ located 1 (lit< tt)))
-    (at-mode-in.mode-in.ensures ∙ ap (read_at 2 mode_value _) (at-found-at2.found-at2.ensures ∙ located 2 (lit< tt)))
-    (at-u32-in.u32-in.ensures ∙ ap (read_at 3 be _) (at-found-at3.found-at3.ensures ∙ located 3 (lit< tt)))
-    (at-connectivity-in.connectivity-in.ensures ∙ ap (read_at 4 connectivity_of _) (at-found-at4.found-at4.ensures ∙ located 4 (lit< tt)))
-    (at-part-at2.part-at2.ensures ∙ ap (on_given part_of) (located 5 (lit< tt)))
-    (at-leader-data-in.leader-data-in.ensures ∙ ap (read_at 6 leader_of _) (at-found-at5.found-at5.ensures ∙ located 6 (lit< tt)))
-    (at-network-data-in.network-data-in.ensures ∙ ap (network_at _) (at-found-at6.found-at6.ensures ∙ located 7 (lit< tt)))
-    (at-part-at3.part-at3.ensures ∙ ap (on_given part_of) (located 8 (lit< tt)))
-    (at-mac-counters-in.mac-counters-in.ensures ∙ ap (read_at 9 counters_of _) (at-found-at7.found-at7.ensures ∙ located 9 (lit< tt)))
-    (at-u8-in.u8-in.ensures ∙ ap (read_at 14 byte_of _) (at-found-at8.found-at8.ensures ∙ located 14 (lit< tt)))
-    (at-u16-in2.u16-in2.ensures ∙ ap (read_at 1 be _) (at-found-at9.found-at9.ensures ∙ located 15 (lit< tt)) ∙ read_15 _ _)
-    (at-part-at4.part-at4.ensures ∙ ap (on_given part_of) (located 16 (lit< tt)))
-    (at-part-at5.part-at5.ensures ∙ ap (on_given part_of) (located 17 (lit< tt)))
-    (at-part-at6.part-at6.ensures ∙ ap (on_given part_of) (located 18 (lit< tt)))
-    (at-part-at7.part-at7.ensures ∙ ap (on_given part_of) (located 23 (lit< tt)))
-    (at-find-all.find-all.ensures.many 30 (lit< tt))
+    (c.part_at.ensures ∙ ap (on_given part_of) (located 0 (lit< tt)))
+    (c.u16_in.ensures ∙ ap (read_at 1 be _) (c.found_at.ensures ∙ located 1 (lit< tt)))
+    (c.mode_in.ensures ∙ ap (read_at 2 mode_value _) (c.found_at-2.ensures ∙ located 2 (lit< tt)))
+    (c.u32_in.ensures ∙ ap (read_at 3 be _) (c.found_at-3.ensures ∙ located 3 (lit< tt)))
+    (c.connectivity_in.ensures ∙ ap (read_at 4 connectivity_of _) (c.found_at-4.ensures ∙ located 4 (lit< tt)))
+    (c.part_at-2.ensures ∙ ap (on_given part_of) (located 5 (lit< tt)))
+    (c.leader_data_in.ensures ∙ ap (read_at 6 leader_of _) (c.found_at-5.ensures ∙ located 6 (lit< tt)))
+    (c.network_data_in.ensures ∙ ap (network_at _) (c.found_at-6.ensures ∙ located 7 (lit< tt)))
+    (c.part_at-3.ensures ∙ ap (on_given part_of) (located 8 (lit< tt)))
+    (c.mac_counters_in.ensures ∙ ap (read_at 9 counters_of _) (c.found_at-7.ensures ∙ located 9 (lit< tt)))
+    (c.u8_in.ensures ∙ ap (read_at 14 byte_of _) (c.found_at-8.ensures ∙ located 14 (lit< tt)))
+    (c.u16_in-2.ensures ∙ ap (read_at 1 be _) (c.found_at-9.ensures ∙ located 15 (lit< tt)) ∙ read_15 _ _)
+    (c.part_at-4.ensures ∙ ap (on_given part_of) (located 16 (lit< tt)))
+    (c.part_at-5.ensures ∙ ap (on_given part_of) (located 17 (lit< tt)))
+    (c.part_at-6.ensures ∙ ap (on_given part_of) (located 18 (lit< tt)))
+    (c.part_at-7.ensures ∙ ap (on_given part_of) (located 23 (lit< tt)))
+    (c.find_all-p.ensures.many 30 (lit< tt))

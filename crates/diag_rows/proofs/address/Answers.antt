@@ -4,7 +4,6 @@ use native.Mathlib.Omega.{arith}
 use native.Mathlib.Nat.{add-sub_cancel_left}
 use Rattle.diag_rows.specs.Answers.{part_answer}
 use Rattle.diag_rows.proofs.Listing.{address_bytes, address_inside}
-use borrow.Author.Rules.{rules}
 use Rattle.diag_rows.proofs.address.Goals as goal
 
 pub overflow_add-result : goal.overflow_add-result

@@ -8,7 +8,6 @@ use Rattle.diag_rows.specs.Rows.{address_parts}
 use Rattle.diag_rules.specs.Answers.{judged_answer}
 use Rattle.diag_rules.proofs.Kept.{row_kept, row_refused}
 use Rattle.diag_rows.proofs.Listing.{part_in, part_out}
-use borrow.Author.Rules.{rules}
 use Rattle.diag_rows.proofs.address_at.Goals as goal
 
 pub returns-then-value-k : goal.returns-then-value-k

@@ -1,5 +1,4 @@
 -- `diag_rows::address_list_of` meets its contract.
-use borrow.Author.Rules.{rules}
 use Rattle.diag_rows.proofs.address_list_of.Goals as goal
 
 pub returns : goal.returns

@@ -1,5 +1,4 @@
 -- `diag_rows::child_at` meets its contract.
-use borrow.Author.Rules.{rules}
 use Rattle.diag_rows.proofs.child_at.Goals as goal
 
 pub returns : goal.returns

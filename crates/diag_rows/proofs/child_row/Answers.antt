@@ -7,7 +7,6 @@ use Rattle.diag_rows.specs.Rows.{child_rows}
 use Rattle.diag_rules.specs.Answers.{judged_answer}
 use Rattle.diag_rules.proofs.Kept.{row_kept, row_refused}
 use Rattle.diag_rows.proofs.Listing.{child_in, child_out}
-use borrow.Author.Rules.{rules}
 use Rattle.diag_rows.proofs.child_row.Goals as goal
 
 pub returns-then-value-k : goal.returns-then-value-k

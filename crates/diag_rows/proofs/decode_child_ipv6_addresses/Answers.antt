@@ -3,7 +3,6 @@ use mathlib.Core.Path.{sym, ap, ◌∙◌}
 use Rattle.diag_rows.specs.Rows.{address_list_of}
 use Rattle.diag_rules.specs.Answers.{judged_answer}
 use Rattle.diag_rules.proofs.Kept.{read_kept, read_refused, list_size}
-use borrow.Author.Rules.{rules}
 use Rattle.diag_rows.proofs.decode_child_ipv6_addresses.Goals as goal
 
 pub address_list_of-requires : goal.address_list_of-requires

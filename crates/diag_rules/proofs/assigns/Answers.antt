@@ -4,7 +4,6 @@ use Prim.Native.Nat.{ℕ, ◌/◌, ◌%◌, ◌^◌}
 use native.Mathlib.Omega.{arith}
 use lib.Dec.{eqb}
 use Rattle.diag_rules.specs.Mask.{bit_of}
-use borrow.Author.Rules.{rules}
 use Rattle.diag_rules.proofs.assigns.Goals as goal
 
 pub returns : goal.returns

@@ -3,7 +3,6 @@ use mathlib.Core.Path.{sym, ap, ◌∙◌}
 use borrow.Author.Tests.{lt-ltb, le-ltb}
 use Rattle.diag_rules.specs.Answers.{judged}
 use Rattle.diag_rules.proofs.Kept.{value_large, value_kept, value_broken}
-use borrow.Author.Rules.{rules}
 use Rattle.diag_rules.proofs.check_value.Goals as goal
 
 pub returns-then-value-gt-MAX_BYTES : goal.returns-then-value-gt-MAX_BYTES

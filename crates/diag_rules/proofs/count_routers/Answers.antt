@@ -1,10 +1,9 @@
 -- `diag_rules::count_routers` meets its contract. The invariant: n and the routers of the mask bytes from j on are all the routers.
 use mathlib.Core.Path.{◌≡◌, ap}
-use Prim.Native.Nat.{◌+◌, ◌-◌, ◌*◌, ◌≤◌}
+use Prim.Native.Nat.{◌+◌, ◌*◌}
 use native.Mathlib.Omega.{arith}
 use lib.ListN.{length}
-use Rattle.diag_rules.specs.Mask.{routers_of}
-use Rattle.diag_rules.proofs.Mask.{rest, rest_all, rest_end, few}
+use Rattle.diag_rules.proofs.Mask.{rest_all, rest_end, few}
 use Rattle.diag_rules.proofs.Bits.{byte_count}
 use borrow.Author.Rules.{rules}
 use Rattle.diag_rules.proofs.count_routers.Goals as goal

@@ -2,7 +2,6 @@
 use borrow.Author.Tests.{le-leb, lt-leb}
 use Rattle.diag_rules.specs.Rule.{keeps_rule}
 use Rattle.diag_rules.proofs.Kept.{other_kept}
-use borrow.Author.Rules.{rules}
 use Rattle.diag_rules.proofs.keeps_rule.Goals as goal
 
 pub returns-in-1 : goal.returns-in-1

@@ -1,7 +1,6 @@
 -- `diag_rules::routes_fit` meets its contract.
 use borrow.Author.Tests.{le-leb, lt-leb}
 use Rattle.diag_rules.specs.Mask.{routes_fit}
-use borrow.Author.Rules.{rules}
 use Rattle.diag_rules.proofs.routes_fit.Goals as goal
 
 pub returns-then-v-lt-ROUTES_AT : goal.returns-then-v-lt-ROUTES_AT

@@ -3,7 +3,6 @@ use mathlib.Core.Path.{sym, ap, ◌∙◌}
 use Rattle.diag_values.specs.Values.{leader_of}
 use Rattle.diag_rules.specs.Answers.{judged_answer}
 use Rattle.diag_rules.proofs.Kept.{read_kept, read_refused, leader_size}
-use borrow.Author.Rules.{rules}
 use Rattle.diag_values.proofs.decode_leader_data.Goals as goal
 
 pub leader_data_of-requires : goal.leader_data_of-requires

@@ -3,7 +3,6 @@ use mathlib.Core.Path.{sym, ap, ◌∙◌}
 use Rattle.diag_values.specs.Values.{counters_of}
 use Rattle.diag_rules.specs.Answers.{judged_answer}
 use Rattle.diag_rules.proofs.Kept.{read_kept, read_refused, counters_size}
-use borrow.Author.Rules.{rules}
 use Rattle.diag_values.proofs.decode_mac_counters.Goals as goal
 
 pub mac_counters_of-requires : goal.mac_counters_of-requires

@@ -1,5 +1,4 @@
 -- `diag_values::leader_data_of` meets its contract.
-use borrow.Author.Rules.{rules}
 use Rattle.diag_values.proofs.leader_data_of.Goals as goal
 
 pub returns : goal.returns

@@ -1,5 +1,4 @@
 -- `diag_values::mac_counters_of` meets its contract.
-use borrow.Author.Rules.{rules}
 use Rattle.diag_values.proofs.mac_counters_of.Goals as goal
 
 pub returns : goal.returns

@@ -6,7 +6,6 @@ use native.Mathlib.Omega.{arith}
 use Rattle.diag_rules.specs.Mask.{byte_at}
 use Rattle.diag_rules.specs.Answers.{judged_answer}
 use Rattle.diag_rules.proofs.Kept.{read_kept, read_refused, battery_size}
-use borrow.Author.Rules.{rules}
 use Rattle.diag_values.proofs.read_u8.Goals as goal
 
 pub bounds-value-0 : goal.bounds-value-0

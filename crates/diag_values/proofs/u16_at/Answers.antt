@@ -2,7 +2,6 @@
 use Prim.Native.Nat.{◌+◌}
 use native.Mathlib.Omega.{arith}
 use Rattle.diag_values.proofs.Numbers.{two_spell}
-use borrow.Author.Rules.{rules}
 use Rattle.diag_values.proofs.u16_at.Goals as goal
 
 pub overflow_cast-result : goal.overflow_cast-result

@@ -1,7 +1,6 @@
 -- `diag_values::u32_at` meets its contract.
 use Rattle.diag_values.proofs.Numbers.{four_of}
 use native.Mathlib.Omega.{arith}
-use borrow.Author.Rules.{rules}
 use Rattle.diag_values.proofs.u32_at.Goals as goal
 
 pub returns : goal.returns

@@ -1,6 +1,5 @@
 -- `hex_text::digit_of` meets its contract.
 use borrow.Author.Tests.{lt-ltb, le-ltb}
-use borrow.Author.Rules.{rules}
 use Rattle.hex_text.specs.HexText.{digit}
 use Rattle.hex_text.proofs.digit_of.Goals as goal
 

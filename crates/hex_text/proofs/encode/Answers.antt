@@ -1,7 +1,6 @@
 -- `hex_text::encode` meets its contract.
 use mathlib.Core.Path.{refl}
 use native.Mathlib.Omega.{arith}
-use borrow.Author.Rules.{rules}
 use Rattle.laws.proofs.Emits.{emit_no_room, emit_done}
 use Rattle.hex_text.proofs.Texts.{length_text}
 use Rattle.hex_text.proofs.encode.Goals as goal

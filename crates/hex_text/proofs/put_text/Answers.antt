@@ -1,11 +1,8 @@
 -- `hex_text::put_text` meets its contract. The invariant: the text of the bytes from i on, stored from 2 * i on, makes of out what the whole text makes of it.
-use mathlib.Core.Path.{◌≡◌, refl, sym, ◌∙◌}
-use Prim.Native.Nat.{◌*◌, ◌-◌, ◌≤◌}
+use mathlib.Core.Path.{refl, sym, ◌∙◌}
 use native.Mathlib.Omega.{arith}
-use lib.ListN.{length, drop, length-set}
+use lib.ListN.{length-set}
 use borrow.Author.Rules.{rules}
-use Rattle.refusal.specs.Output.{put}
-use Rattle.hex_text.specs.HexText.{hex_text}
 use Rattle.hex_text.proofs.Texts.{text_next, text_end}
 use Rattle.hex_text.proofs.put_text.Goals as goal
 

@@ -4,7 +4,6 @@ use native.Mathlib.Omega.{arith}
 use native.Mathlib.Nat.{add-sub_cancel_left, add-sub_cancel}
 use Rattle.house_template.specs.Answers.{supplied_answer}
 use Rattle.house_template.proofs.Supplies.{answer_named, no_part}
-use borrow.Author.Rules.{rules}
 use Rattle.house_template.proofs.supplied_value.Goals as goal
 
 pub overflow_add-result : goal.overflow_add-result
@@ -28,4 +27,4 @@ returns-in-Template c =
     simp (add-sub_cancel_left, add-sub_cancel) (sym (answer_named _ _ _ _ (sym (ap supplied_answer c.in-Template.is) ∙ c.supplied_entry.ensures)).1)
 
 pub returns-in_default : goal.returns-in_default
-returns-in_default c = no_part _ _ _ c.supplied_entry.result c.supplied_entry.ensures c.in-Site.keys3
+returns-in_default c = no_part _ _ _ c.supplied_entry.result c.supplied_entry.ensures c.in_default.in_default-own.keys3

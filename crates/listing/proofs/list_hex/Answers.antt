@@ -13,9 +13,6 @@ slice_bounds-list-end c = omega (arith, gave_inside _ _ _ _ (rw c.in-Bytes.is at
 pub returns-in-Refused : goal.returns-in-Refused
 returns-in-Refused c = emit_refused _ _ _ _ _ (hex_refused listed _ _ _ _ _ _ (search rules) (rw c.in-Refused.is at c.decode.ensures))
 
-pub shape_of-out : goal.shape_of-out
-shape_of-out c = c.list.auto.1.0
-
 pub returns-in-Bytes : goal.returns-in-Bytes
 returns-in-Bytes c =
     let bytes = hex_given listed _ _ _ _ (rw c.in-Bytes.is at c.decode.ensures) in

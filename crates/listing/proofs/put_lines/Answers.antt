@@ -1,16 +1,11 @@
 -- `listing::put_lines` meets its contract. The invariant: the lines from pos on, laid from next on, make of out what all the lines make of it.
-use mathlib.Core.Path.{◌≡◌, refl, ap, ◌∙◌}
-use Prim.Native.Nat.{◌-◌, ◌≤◌}
+use mathlib.Core.Path.{refl, ap, ◌∙◌}
 use native.Mathlib.Omega.{arith}
-use lib.ListN.{length}
-use Rattle.tlv.specs.Entries.{framing}
-use Rattle.tlv.proofs.Walks.{from, turn_inside, turn_none}
+use Rattle.tlv.proofs.Walks.{turn_inside}
 use Rattle.text_writing.specs.Laid.{laid}
 use Rattle.text_writing.proofs.Lays.{laid_none, laid_rest, laid_length}
-use Rattle.listing.specs.Listing.{entry_lines}
-use Rattle.listing.proofs.Lines.{lines_start, lines_turn, lines_end}
+use Rattle.listing.proofs.Lines.{lines_start, lines_turn, lines_end, no_entry}
 use borrow.Author.Rules.{rules}
-use borrow.Enum.Refused.{opened}
 use Rattle.listing.proofs.put_lines.Goals as goal
 
 pub loop-ty-init : goal.loop-ty-init
@@ -36,5 +31,5 @@ shape_of-out-in_default c = c.loop-ty.invariant.1
 
 pub returns-in_default : goal.returns-in_default
 returns-in_default c =
-    let none = turn_none _ _ _ c.frame_at.ensures (opened c.in_default.in_default-own.keys2) in
+    let none = no_entry _ _ _ c.frame_at.ensures c.in_default.not-Entry in
     laid_none _ _ ∙ ap (laid _ _) (lines_end _ _ none) ∙ c.loop-ty.invariant.2

@@ -2,12 +2,11 @@
 use mathlib.Core.Path.{refl}
 use native.Mathlib.Omega.{arith}
 use Rattle.text_writing.proofs.Lays.{lays_no_room, lays_done}
-use borrow.Author.Rules.{rules}
 use Rattle.listing.proofs.write_refused.Goals as goal
 
 pub returns-then-need-out : goal.returns-then-need-out
-returns-then-need-out c = rw c.refuse.ensures (lays_no_room _ _ _ refl _ _ _ c.Put-refused.ensures c.if-need-out.true)
+returns-then-need-out c = rw c.refuse.ensures (lays_no_room _ _ _ refl _ _ _ c.put_refused-need.ensures c.if-need-out.true)
 
 pub returns : goal.returns
 returns c =
-    lays_done _ _ _ refl _ _ _ c.Put-refused.ensures (omega (arith, c.well_formed.1.1.0)) c.if-need-out.false _ _ c.put_refused.ensures
+    lays_done _ _ _ refl _ _ _ c.put_refused-need.ensures (omega arith) c.if-need-out.false _ _ c.put_refused.ensures

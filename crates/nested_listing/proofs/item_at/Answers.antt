@@ -2,13 +2,11 @@
 use mathlib.Core.Path.{sym, ap, ◌∙◌}
 use Rattle.nested_listing.specs.Levels.{as_entry, as_tlv}
 use Rattle.nested_listing.proofs.Turns.{item_first, item_below, not_cut}
-use borrow.Author.Rules.{rules}
-use borrow.Enum.Refused.{opened}
 use Rattle.nested_listing.proofs.item_at.Goals as goal
 
 pub returns-in_default : goal.returns-in_default
 returns-in_default c =
-    not_cut c.frame_at-entry.result (opened c.in_default.in_default-own.keys2) ∙ item_first _ _ _ c.if-nesting-eq-LEVELS.true _ c.frame_at-entry.ensures
+    not_cut _ c.in_default.not-Cut ∙ item_first _ _ _ c.if-nesting-eq-LEVELS.true _ c.frame_at-entry.ensures
 
 pub returns-then-nesting-eq-LEVELS : goal.returns-then-nesting-eq-LEVELS
 returns-then-nesting-eq-LEVELS c = ap as_entry (sym c.in-Cut.is) ∙ item_first _ _ _ c.if-nesting-eq-LEVELS.true _ c.frame_at-entry.ensures

@@ -1,32 +1,19 @@
 -- `nested_listing::list_nested` meets its contract: the count's refusal, 11 by the size that the lines take in no room, or the lines.
-use mathlib.Core.Path.{◌≡◌, sym, ap, ◌∙◌}
 use native.Mathlib.Omega.{arith}
-use borrow.Author.Rules.{rules}
-use Rattle.refusal.specs.Answer.{given}
 use Rattle.laws.proofs.Emits.{emit_refused}
-use Rattle.tlv.specs.Answers.{counted_answer}
 use Rattle.text_writing.proofs.Lays.{lays_no_room, lays_done}
-use Rattle.nested_listing.specs.Nested.{nested}
-use Rattle.nested_listing.specs.Levels.{list_text}
 use Rattle.nested_listing.proofs.Turns.{nested_given, nested_refused}
 use Rattle.nested_listing.proofs.list_nested.Goals as goal
 
--- what is known once the entries are counted
-module _ (t : tie.After-enum-told) where
-  abbrev start : tie.Start
-  start = t.before.before.before.before.before
-
-  is-text : nested start.args.s.now ≡ given (list_text 3 start.args.s.now)
-  is-text = nested_given _ _ (sym (ap counted_answer t.enum_told.given.1) ∙ t.before.before.count_entries.ensures)
-
 pub returns-then-need-out : goal.returns-then-need-out
-returns-then-need-out c = rw c.refuse.ensures (lays_no_room _ _ _ (is-text c) _ _ _ c.put_list-need.ensures c.if-need-out.true)
+returns-then-need-out c =
+    let text = nested_given _ _ (rw c.in-Entries.is at c.count_entries.ensures) in
+    rw c.refuse.ensures (lays_no_room _ _ _ text _ _ _ c.put_list-need.ensures c.if-need-out.true)
 
 pub returns-in-Refused : goal.returns-in-Refused
-returns-in-Refused c =
-    let counted = sym (ap counted_answer c.in-Refused.is) ∙ c.count_entries.ensures in
-    emit_refused _ _ _ _ _ (nested_refused _ _ _ _ counted)
+returns-in-Refused c = emit_refused _ _ _ _ _ (nested_refused _ _ _ _ (rw c.in-Refused.is at c.count_entries.ensures))
 
 pub returns-else-need-out : goal.returns-else-need-out
 returns-else-need-out c =
-    lays_done _ _ _ (is-text c) _ _ _ c.put_list-need.ensures (omega (arith, (start c).well-formed.1.0)) c.if-need-out.false _ _ c.put_list.ensures
+    let text = nested_given _ _ (rw c.in-Entries.is at c.count_entries.ensures) in
+    lays_done _ _ _ text _ _ _ c.put_list-need.ensures (omega arith) c.if-need-out.false _ _ c.put_list.ensures

@@ -1,6 +1,5 @@
 -- `network_data::check` meets its contract: what the check counts is what the definition has. Assumes nothing.
 use mathlib.Core.Path.{◌∙◌}
-use borrow.Author.Rules.{rules}
 use Rattle.network_data.proofs.Counted.{counted, too_large}
 use Rattle.network_data.proofs.check.Goals as goal
 

@@ -5,7 +5,6 @@ use Prim.Native.Nat.{◌+◌}
 use Rattle.network_framing.specs.Place.{head_place}
 use Rattle.network_framing.proofs.Agrees.{head_is, head_short, head_inner}
 use Rattle.network_framing.specs.declared.Head.TheVariants.{Short}
-use borrow.Author.Rules.{rules}
 use Rattle.network_framing.proofs.head_at.Goals as goal
 
 pub returns-then-end-start : goal.returns-then-end-start

@@ -5,7 +5,6 @@ use Prim.Native.Nat.{◌+◌}
 use Rattle.network_framing.specs.Place.{sub_place}
 use Rattle.network_framing.proofs.Agrees.{sub_is, sub_item, sub_cut}
 use Rattle.network_framing.specs.declared.SubTlv.TheVariants.{Cut, End}
-use borrow.Author.Rules.{rules}
 use Rattle.network_framing.proofs.sub_in.Goals as goal
 
 pub returns-then-end-at : goal.returns-then-end-at

@@ -1,5 +1,4 @@
 -- `network_plans::answer_of` meets its contract: the check, and then the room. Assumes nothing.
-use borrow.Author.Rules.{rules}
 use mathlib.Core.Path.{sym, ap, ◌∙◌}
 use Rattle.network_data.specs.Answers.{checked_answer}
 use Rattle.network_plans.proofs.Checks.{answered_given, answered_refused}

@@ -1,5 +1,4 @@
 -- `network_plans::plan_for` meets its contract. Assumes nothing.
-use borrow.Author.Rules.{rules}
 use mathlib.Core.Path.{ap, ◌∙◌}
 use Rattle.network_plans.specs.Planned.{planned_for}
 use Rattle.network_plans.proofs.plan_for.Goals as goal

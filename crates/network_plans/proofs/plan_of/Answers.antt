@@ -1,5 +1,4 @@
 -- `network_plans::plan_of` meets its contract. Assumes nothing.
-use borrow.Author.Rules.{rules}
 use Rattle.network_plans.specs.Planned.{amount}
 use Rattle.network_plans.proofs.plan_of.Goals as goal
 

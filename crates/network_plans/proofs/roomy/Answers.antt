@@ -1,5 +1,4 @@
 -- `network_plans::roomy` meets its contract: at each `return` the tests that led there say which case of `room_for` holds.
-use borrow.Author.Rules.{rules}
 use mathlib.Core.Path.{◌∙◌}
 use borrow.Author.Tests.{le-leb, lt-leb}
 use Rattle.network_plans.specs.Planned.{room_for}

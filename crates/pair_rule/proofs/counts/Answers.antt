@@ -1,6 +1,5 @@
 -- `pair_rule::counts` meets its contract.
 use Rattle.pair_rule.specs.Pairing.{counts}
-use borrow.Author.Rules.{rules}
 use Rattle.pair_rule.proofs.counts.Goals as goal
 
 pub returns : goal.returns

@@ -15,8 +15,7 @@ use borrow.Enum.Refused.{opened}
 use Rattle.pairing.proofs.count_lists.Goals as goal
 
 pub loop-ty-init : goal.loop-ty-init
-loop-ty-init c =
-    (
+loop-ty-init c = (
   placing_same _ _ _ _ _ (ap (keys_of _) (lists_start _)) (placing_start _),
   counting_same _ _ _ _ _ (ap (keys_of _) (lists_start _)) (counting_start _),
   c.requires,

@@ -2,7 +2,6 @@
 use mathlib.Core.Path.{sym, ◌∙◌}
 use borrow.Author.Tests.{lt-ltb, le-ltb}
 use Rattle.plain_values.specs.Plain.{sized_value, name_at}
-use borrow.Author.Rules.{rules}
 use Rattle.plain_values.proofs.check_name.Goals as goal
 
 pub returns-then-n-gt-MAX_BYTES : goal.returns-then-n-gt-MAX_BYTES

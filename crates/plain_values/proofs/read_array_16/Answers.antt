@@ -1,10 +1,7 @@
 -- `plain_values::read_array_16` meets its contract. The invariant: the rest of the value stored after what is stored gives the whole of it.
 -- The measure is what is left of the 16 bytes.
-use mathlib.Core.Path.{◌≡◌, refl, sym, ◌∙◌}
-use Prim.Native.Nat.{◌-◌, ◌≤◌}
+use mathlib.Core.Path.{refl, sym, ◌∙◌}
 use native.Mathlib.Omega.{arith}
-use lib.ListN.{drop}
-use Rattle.refusal.specs.Output.{put}
 use Rattle.plain_values.specs.Plain.{zeros, copied}
 use Rattle.plain_values.proofs.Copies.{copied_not, copied_is, put_turn, put_all}
 use borrow.Author.Rules.{rules}

@@ -1,7 +1,6 @@
 -- `plain_values::read_array_8` meets its contract: a value of 8 bytes is its bytes by index.
 use Rattle.plain_values.specs.Plain.{zeros, copied}
 use Rattle.plain_values.proofs.Copies.{elements_are, copied_not, copied_is}
-use borrow.Author.Rules.{rules}
 use Rattle.plain_values.proofs.read_array_8.Goals as goal
 
 pub returns-then-n-ne8 : goal.returns-then-n-ne8

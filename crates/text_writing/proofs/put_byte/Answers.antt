@@ -2,12 +2,11 @@
 use mathlib.Core.Path.{refl, sym}
 use native.Mathlib.Omega.{arith}
 use lib.Seq.{set_out}
-use borrow.Author.Rules.{rules}
 use Rattle.text_writing.proofs.Lays.{after_one, after_last, laid_byte}
 use Rattle.text_writing.proofs.put_byte.Goals as goal
 
 pub returns-then-at-out : goal.returns-then-at-out
-returns-then-at-out c = laid_byte _ _ _ _ _ (after_one c.args.at (omega (arith, c.well_formed.1.0))) refl
+returns-then-at-out c = laid_byte _ _ _ _ _ (after_one c.args.at (omega arith)) refl
 
 pub returns-then-at-lt-LAST_PLACE : goal.returns-then-at-lt-LAST_PLACE
 returns-then-at-lt-LAST_PLACE c =

@@ -1,10 +1,7 @@
 -- `text_writing::put_text` meets its contract. The invariant: what is left of the text, laid from here on, makes of out what all of it makes.
-use mathlib.Core.Path.{◌≡◌, refl, ◌∙◌}
-use Prim.Native.Nat.{◌-◌, ◌≤◌}
+use mathlib.Core.Path.{refl, ◌∙◌}
 use native.Mathlib.Omega.{arith}
-use lib.ListN.{length, drop}
 use borrow.Author.Rules.{rules}
-use Rattle.text_writing.specs.Laid.{laid}
 use Rattle.text_writing.proofs.Lays.{laid_length, copy_turn, copy_end}
 use Rattle.text_writing.proofs.put_text.Goals as goal
 

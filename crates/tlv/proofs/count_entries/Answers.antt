@@ -1,15 +1,14 @@
 -- `tlv::count_entries` meets its contract. The invariant: counting on from the place at, with n entries passed, gives the answer.
 -- The measure is what is left of the input. Assumes nothing.
-use mathlib.Core.Path.{◌≡◌, sym, ap, ◌∙◌}
-use mathlib.Core.Logic.{⊎_elim}
-use Prim.Native.Nat.{◌-◌, ◌≤◌}
+use mathlib.Core.Path.{sym, ap, ◌∙◌}
+use Prim.Native.Nat.{◌≤◌}
 use native.Mathlib.Omega.{arith}
 use lib.ListN.{length}
 use borrow.Author.Rules.{rules}
 use borrow.Author.Tests.{lt-ltb, le-ltb}
 use Rattle.refusal.specs.Sizes.{most_bytes}
 use Rattle.tlv.specs.Limits.{count, framed}
-use Rattle.tlv.proofs.Walks.{from, turn_end, turn_cut, turn_entry, turn_inside}
+use Rattle.tlv.proofs.Walks.{turn_end, turn_cut, turn_entry, turn_inside}
 use Rattle.tlv.proofs.Tally.{tally, tally_start, tally_at, tally_off, tally_end, tally_cut}
 use Rattle.tlv.proofs.count_entries.Goals as goal
 use Rattle.tlv.proofs.count_entries.Goals.{then-n-eq-MAX_ENTRIES, else-n-eq-MAX_ENTRIES}
@@ -54,7 +53,7 @@ loop-start-preserved c =
       inside.1,
       omega (arith, inside),
       elim c.if-n-eq-MAX_ENTRIES.branch [
-        then-n-eq-MAX_ENTRIES w ↦ rw w.over-is (sym (tally_at _ _ _ _ w.if-n-eq-MAX_ENTRIES.true _) ∙ goes_on)
-      | else-n-eq-MAX_ENTRIES w ↦ rw w.over-is (sym (tally_off _ _ _ _ w.if-n-eq-MAX_ENTRIES.false _) ∙ goes_on)
+        | then-n-eq-MAX_ENTRIES w ↦ rw w.over-is (sym (tally_at _ _ _ _ w.if-n-eq-MAX_ENTRIES.true _) ∙ goes_on)
+        | else-n-eq-MAX_ENTRIES w ↦ rw w.over-is (sym (tally_off _ _ _ _ w.if-n-eq-MAX_ENTRIES.false _) ∙ goes_on)
       ],
     )

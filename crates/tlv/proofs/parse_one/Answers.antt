@@ -1,6 +1,5 @@
 -- `tlv::parse_one` meets its contract.
 use Rattle.tlv.proofs.Walks.{head_entry, head_none}
-use borrow.Author.Rules.{rules}
 use borrow.Enum.Refused.{opened}
 use Rattle.tlv.proofs.parse_one.Goals as goal
 

@@ -1,6 +1,5 @@
 -- `tlv::stopped` meets its contract, by its two tests.
 use mathlib.Core.Path.{◌∙◌}
-use borrow.Author.Rules.{rules}
 use Rattle.tlv.proofs.stopped.Goals as goal
 
 pub returns-then-cut : goal.returns-then-cut

@@ -18,8 +18,7 @@ pub returns-in-Refused : goal.returns-in-Refused
 returns-in-Refused c = counted_refused _ _ _ _ _ _ (sym (ap counted_answer c.in-Refused.is) ∙ c.count_entries.ensures) ∙ sym (spot_then _ _ _)
 
 pub loop-t-init : goal.loop-t-init
-loop-t-init c =
-    (
+loop-t-init c = (
   search rules,
   sym (spot_then _ _ _ ∙ counted_given _ _ _ _ (sym (ap counted_answer c.in-Entries.is) ∙ c.count_entries.ensures)),
 )

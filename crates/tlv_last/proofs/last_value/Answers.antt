@@ -6,6 +6,7 @@ use Rattle.tlv_last.specs.Answers.{found_answer}
 use Rattle.tlv_last.proofs.Lasts.{spot_part, spot_none}
 use Rattle.tlv_last.proofs.Papers.{no_spot}
 use borrow.Author.Rules.{rules}
+use borrow.Enum.Refused.{opened}
 use Rattle.tlv_last.proofs.last_value.Goals as goal
 
 pub overflow_add-result : goal.overflow_add-result
@@ -19,4 +20,4 @@ returns-in-At c =
     simp (add-sub_cancel_left, add-sub_cancel) (spot_part _ _ _ _ _ (sym (ap found_answer c.in-At.is) ∙ c.last_entry.ensures)).1
 
 pub returns-in_default : goal.returns-in_default
-returns-in_default c = sym (spot_none _ _ _ c.last_entry.ensures (no_spot c.last_entry.result c.in-At.keys2))
+returns-in_default c = sym (spot_none _ _ _ c.last_entry.ensures (no_spot c.last_entry.result (opened c.in_default.in_default-own.keys2)))

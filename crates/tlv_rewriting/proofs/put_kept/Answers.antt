@@ -19,13 +19,7 @@ use borrow.Enum.Refused.{opened}
 use Rattle.tlv_rewriting.proofs.put_kept.Goals as goal
 
 pub loop-ty-init : goal.loop-ty-init
-loop-ty-init c =
-    (
-  search rules,
-  refl,
-  zero-add _,
-  refl,
-)
+loop-ty-init c = (search rules, refl, zero-add _, refl)
 
 pub overflow_add-end : goal.overflow_add-end
 overflow_add-end c = omega (arith, turn_inside _ _ _ c.frame_at.ensures _ _ _ c.in-Entry.is)
@@ -52,7 +46,7 @@ loop-ty-preserved-then-keeps c =
     let next = placed_next _ _ _ _ _ told (omega (arith, size, more, room, c.loop-ty.invariant)) in
     let left = placed_left _ _ _ _ _ told (omega (arith, size, more, room, c.loop-ty.invariant)) in (
       inside.1,
-      c.put_entry-to.auto.1.1.0 ∙ c.loop-ty.invariant.1,
+      c.put_entry-to.auto.out ∙ c.loop-ty.invariant.1,
       omega arith,
       put_then _ _ _ _ _ _ left next ∙ ap (put _ _) (sym (bytes_keep _ _ _ _ _ n entries kept)) ∙ c.loop-ty.invariant.3,
     )

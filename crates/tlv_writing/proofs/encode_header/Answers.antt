@@ -1,39 +1,23 @@
 -- `tlv_writing::encode_header` meets its contract: an entry's size without its value is the header's.
-use mathlib.Core.Path.{◌≡◌, ◌∙◌}
 use native.Mathlib.Omega.{arith}
-use Prim.Native.Nat.{ℕ, ◌+◌}
-use lib.ListN.{length}
 use Rattle.laws.proofs.Emits.{emit_refused, emit_no_room, emit_done}
-use Rattle.tlv_writing.specs.Encode.{header}
-use Rattle.tlv_writing.proofs.Encodes.{size_header, entry_size_lem, headed_too_long, headed_is}
-use borrow.Author.Rules.{rules}
+use Rattle.tlv_writing.proofs.Encodes.{header_measured, headed_too_long, headed_is}
 use Rattle.tlv_writing.proofs.encode_header.Goals as goal
-
--- once the entry is measured
-module _ (c : tie.After-entry-size) where
-  abbrev len : ℕ
-  len = c.before.before.before.args.len
-
-  abbrev bytes : ℕ
-  bytes = length (header c.before.before.before.args.ty len)
-
-  size : c.entry_size_lem.result ≡ bytes + len
-  size = omega (arith, c.entry_size_lem.ensures ∙ entry_size_lem len c.before.if1.false, size_header c.before.before.before.args.ty len)
 
 pub returns-then-len-gt-MAX_EXTENDED_TLV_LENGTH : goal.returns-then-len-gt-MAX_EXTENDED_TLV_LENGTH
 returns-then-len-gt-MAX_EXTENDED_TLV_LENGTH c = rw c.refuse.ensures (emit_refused _ _ _ _ _ (headed_too_long _ _ c.if-len-gt-MAX_EXTENDED_TLV_LENGTH.true))
 
 pub overflow_sub-entry_size : goal.overflow_sub-entry_size
-overflow_sub-entry_size c = omega (arith, size c)
+overflow_sub-entry_size c = omega (arith, header_measured c.args.ty c.args.len _ c.if-len-gt-MAX_EXTENDED_TLV_LENGTH.false c.entry_size.ensures)
 
 pub returns-then-entry_size-len : goal.returns-then-entry_size-len
 returns-then-entry_size-len c =
-    rw c.refuse-then-entry_size-len.ensures (emit_no_room _ _ _ (headed_is _ _ c.if-len-gt-MAX_EXTENDED_TLV_LENGTH.false) (omega (arith, size c)))
+    rw c.refuse-then-entry_size-len.ensures (emit_no_room _ _ _ (headed_is _ _ c.if-len-gt-MAX_EXTENDED_TLV_LENGTH.false) (omega (arith, header_measured c.args.ty c.args.len _ c.if-len-gt-MAX_EXTENDED_TLV_LENGTH.false c.entry_size.ensures)))
 
 pub store_header-requires : goal.store_header-requires
-store_header-requires c = (c.if-len-gt-MAX_EXTENDED_TLV_LENGTH.false, omega (arith, size c))
+store_header-requires c = (c.if-len-gt-MAX_EXTENDED_TLV_LENGTH.false, omega (arith, header_measured c.args.ty c.args.len _ c.if-len-gt-MAX_EXTENDED_TLV_LENGTH.false c.entry_size.ensures))
 
 pub returns : goal.returns
 returns c =
     let told = c.store_header.ensures in
-    emit_done _ _ _ (headed_is _ _ c.if-len-gt-MAX_EXTENDED_TLV_LENGTH.false) _ _ (omega (arith, told.0)) told.1 (omega (arith, size c))
+    emit_done _ _ _ (headed_is _ _ c.if-len-gt-MAX_EXTENDED_TLV_LENGTH.false) _ _ (omega (arith, told.0)) told.1 (omega (arith, header_measured c.args.ty c.args.len _ c.if-len-gt-MAX_EXTENDED_TLV_LENGTH.false c.entry_size.ensures))

@@ -1,6 +1,5 @@
 -- `utf8::char_len_at` meets its contract: each class by the law of its length.
 use mathlib.Core.Path.{refl, ◌∙◌}
-use borrow.Author.Rules.{rules}
 use borrow.Author.Tests.{ne_eqb}
 use Rattle.utf8.proofs.Firsts.{after}
 use Rattle.utf8.proofs.Places.{by_class, one_char, no_char, two_char, three_char, four_char}

@@ -1,6 +1,5 @@
 -- `utf8::four_at` meets its contract.
 use mathlib.Core.Path.{sym, ◌∙◌}
-use borrow.Author.Rules.{rules}
 use Rattle.utf8.specs.Chars.{four_at}
 use Rattle.utf8.proofs.four_at.Goals as goal
 

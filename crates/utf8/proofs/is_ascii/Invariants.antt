@@ -1,11 +1,9 @@
 -- `utf8::is_ascii` meets its contract. The invariant: what is known so far, and the bytes from i on, say what all say.
-use mathlib.Core.Path.{◌≡◌, refl, sym, ap, ◌∙◌}
-use mathlib.Core.Bool.{Bool, ◌&&◌, and-true}
+use mathlib.Core.Path.{◌≡◌}
+use mathlib.Core.Bool.{◌&&◌}
 use Prim.Native.Nat.{◌≤◌, ◌-◌}
 use lib.ListN.{length, drop}
-use borrow.Author.Rules.{rules}
 use Rattle.utf8.specs.Chars.{all_one}
-use Rattle.utf8.proofs.Places.{one_next, one_end}
 use Rattle.utf8.proofs.is_ascii.Given as goal
 
 abbrev pub invariant-loop-i : goal.invariant-loop-i

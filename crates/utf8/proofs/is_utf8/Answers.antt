@@ -1,6 +1,5 @@
 -- `utf8::is_utf8` meets its contract.
 use mathlib.Core.Path.{sym, ◌∙◌}
-use borrow.Author.Rules.{rules}
 use Rattle.utf8.proofs.Places.{ascii_all}
 use Rattle.utf8.proofs.is_utf8.Goals as goal
 

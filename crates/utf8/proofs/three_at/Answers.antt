@@ -1,6 +1,5 @@
 -- `utf8::three_at` meets its contract.
 use mathlib.Core.Path.{sym, ◌∙◌}
-use borrow.Author.Rules.{rules}
 use Rattle.utf8.specs.Chars.{three_at}
 use Rattle.utf8.proofs.three_at.Goals as goal
 

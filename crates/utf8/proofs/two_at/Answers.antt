@@ -1,6 +1,5 @@
 -- `utf8::two_at` meets its contract.
 use mathlib.Core.Path.{sym, ◌∙◌}
-use borrow.Author.Rules.{rules}
 use Rattle.utf8.specs.Chars.{two_at}
 use Rattle.utf8.proofs.two_at.Goals as goal
 

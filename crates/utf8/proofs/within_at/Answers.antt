@@ -1,6 +1,5 @@
 -- `utf8::within_at` meets its contract.
 use borrow.Author.Tests.{lt-ltb, le-ltb, le-leb, lt-leb}
-use borrow.Author.Rules.{rules}
 use Rattle.utf8.specs.Chars.{within_at}
 use Rattle.utf8.proofs.within_at.Goals as goal
 

@@ -1,7 +1,6 @@
 -- `wire_bytes::u64_bytes` meets its contract: the definition, computed.
 use mathlib.Core.Path.{refl}
 use Rattle.wire_bytes.specs.Bytes.{bytes_of}
-use borrow.Author.Rules.{rules}
 use Rattle.wire_bytes.proofs.u64_bytes.Goals as goal
 
 pub returns : goal.returns

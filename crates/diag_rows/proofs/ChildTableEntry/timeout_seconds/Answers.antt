@@ -7,7 +7,6 @@ use lib.Pow.{shl_exact}
 use lib.Dec.{lit<}
 use borrow.Author.Tests.{lt-ltb, le-ltb}
 use Rattle.diag_rows.specs.Rows.{timeout_seconds}
-use borrow.Author.Rules.{rules}
 use Rattle.diag_rows.proofs.ChildTableEntry.timeout_seconds.Goals as goal
 
 shifted : (e k : ℕ) → 4 ≤ e → e < 32 → k ≡ e - 4 → 1 * 2 ^ k % 2 ^ 32 ≡ timeout_seconds e

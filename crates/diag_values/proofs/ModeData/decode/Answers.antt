@@ -4,7 +4,6 @@ use native.Mathlib.Omega.{arith}
 use Rattle.diag_values.specs.Values.{mode_value}
 use Rattle.diag_rules.specs.Answers.{judged_answer}
 use Rattle.diag_rules.proofs.Kept.{read_kept, read_refused, mode_size}
-use borrow.Author.Rules.{rules}
 use Rattle.diag_values.proofs.ModeData.decode.Goals as goal
 
 pub bounds-value-0 : goal.bounds-value-0

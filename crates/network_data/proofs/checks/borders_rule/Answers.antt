@@ -1,5 +1,4 @@
 -- `network_data::checks::borders_rule` meets its contract: `rule` of that type is what `join` gives. Assumes nothing.
-use borrow.Author.Rules.{rules}
 use mathlib.Core.Path.{sym, ap, ◌∙◌}
 use Rattle.network_data.specs.Answers.{sum_answer}
 use Rattle.network_data.specs.Rules.{rule}

@@ -1,9 +1,6 @@
 -- `network_data::checks::check_inner` meets its contract. The invariant: checking what the walker has left, with c passed, gives the answer.
 -- The measure is what is left. Assumes nothing.
-use borrow.Author.Rules.{rules}
-use mathlib.Core.Path.{◌≡◌, refl, sym, ap, ◌∙◌}
-use lib.ListN.{length}
-use Rattle.network_framing.specs.Frame.{walk_in}
+use mathlib.Core.Path.{refl, sym, ap, ◌∙◌}
 use Rattle.network_data.specs.Answers.{checked_answer}
 use Rattle.network_data.specs.Rules.{check_in}
 use Rattle.network_framing.proofs.Walks.{turn_end, turn_cut}

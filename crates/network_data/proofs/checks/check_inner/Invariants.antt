@@ -1,15 +1,9 @@
 -- `network_data::checks::check_inner` meets its contract. The invariant: checking what the walker has left, with c passed, gives the answer.
 -- The measure is what is left. Assumes nothing.
-use borrow.Author.Rules.{rules}
-use mathlib.Core.Path.{◌≡◌, refl, sym, ap, ◌∙◌}
+use mathlib.Core.Path.{◌≡◌}
 use lib.ListN.{length}
 use Rattle.network_framing.specs.Frame.{walk_in}
-use Rattle.network_data.specs.Answers.{checked_answer}
 use Rattle.network_data.specs.Rules.{check_in}
-use Rattle.network_framing.proofs.Walks.{turn_end, turn_cut}
-use Rattle.network_walker.proofs.Shifts.{left_less}
-use Rattle.network_data.proofs.Passes.{in_end, in_cut}
-use Rattle.network_data.proofs.Moved.{inner_more, inner_refused}
 use Rattle.network_data.proofs.checks.check_inner.Given as goal
 
 abbrev pub invariant-loop-ty : goal.invariant-loop-ty

@@ -1,11 +1,8 @@
 -- `network_data::checks::check_items` meets its contract. The invariant: what the walker has left is no longer than all, and
 -- checking it, with c passed, gives the answer. The measure is what is left. Assumes nothing.
 use borrow.Author.Rules.{rules}
-use mathlib.Core.Path.{◌≡◌, refl, sym, ap, ◌∙◌}
-use Prim.Native.Nat.{◌≤◌}
+use mathlib.Core.Path.{refl, sym, ap, ◌∙◌}
 use native.Mathlib.Omega.{arith}
-use lib.ListN.{length}
-use Rattle.network_framing.specs.Frame.{walk_in}
 use Rattle.network_data.specs.Answers.{checked_answer}
 use Rattle.network_data.specs.Rules.{check_from, check_value}
 use Rattle.network_framing.proofs.Walks.{turn_end, turn_cut, turn_inside}

@@ -1,17 +1,10 @@
 -- `network_data::checks::check_items` meets its contract. The invariant: what the walker has left is no longer than all, and
 -- checking it, with c passed, gives the answer. The measure is what is left. Assumes nothing.
-use borrow.Author.Rules.{rules}
-use mathlib.Core.Path.{◌≡◌, refl, sym, ap, ◌∙◌}
+use mathlib.Core.Path.{◌≡◌}
 use Prim.Native.Nat.{◌≤◌}
-use native.Mathlib.Omega.{arith}
 use lib.ListN.{length}
 use Rattle.network_framing.specs.Frame.{walk_in}
-use Rattle.network_data.specs.Answers.{checked_answer}
 use Rattle.network_data.specs.Rules.{check_from, check_value}
-use Rattle.network_framing.proofs.Walks.{turn_end, turn_cut, turn_inside}
-use Rattle.network_walker.proofs.Shifts.{left_less}
-use Rattle.network_data.proofs.Passes.{out_end, out_cut}
-use Rattle.network_data.proofs.Moved.{items_skip, items_more, items_refused}
 use Rattle.network_data.proofs.checks.check_items.Given as goal
 
 abbrev pub invariant-loop-ty : goal.invariant-loop-ty

@@ -1,5 +1,4 @@
 -- `network_data::checks::check_prefix` meets its contract: the size is tested, then the prefix's own bytes, then its inner TLVs.
-use borrow.Author.Rules.{rules}
 use mathlib.Core.Path.{sym, ap, ◌∙◌}
 use Prim.Native.Nat.{◌<◌, ◌≤◌}
 use native.Mathlib.Omega.{arith}

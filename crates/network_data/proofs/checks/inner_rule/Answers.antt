@@ -1,5 +1,4 @@
 -- `network_data::checks::inner_rule` meets its contract: at each `return` the tests that led there say which case of `rule` holds.
-use borrow.Author.Rules.{rules}
 use mathlib.Core.Path.{◌∙◌}
 use borrow.Author.Tests.{eq-eqb, ne_eqb}
 use Rattle.network_data.specs.Rules.{rule}

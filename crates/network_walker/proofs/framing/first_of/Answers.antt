@@ -1,5 +1,4 @@
 -- `network_walker::framing::first_of` meets its contract: the step from the first byte to the last. Assumes nothing.
-use borrow.Author.Rules.{rules}
 use native.Mathlib.Omega.{arith}
 use Rattle.network_walker.proofs.Rests.{first_is}
 use Rattle.network_walker.proofs.framing.first_of.Goals as goal

@@ -1,5 +1,4 @@
 -- `network_walker::framing::rest_at` meets its contract: as many bytes follow as the definition leaves. Assumes nothing.
-use borrow.Author.Rules.{rules}
 use native.Mathlib.Omega.{arith}
 use Rattle.network_framing.proofs.Walks.{turn_inside}
 use Rattle.network_walker.proofs.Rests.{item_length, cut_length, end_length}

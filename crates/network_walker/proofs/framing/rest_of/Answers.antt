@@ -1,5 +1,4 @@
 -- `network_walker::framing::rest_of` meets its contract: the part of s that is as long as what is left. Assumes nothing.
-use borrow.Author.Rules.{rules}
 use Rattle.network_walker.proofs.Rests.{rest_part}
 use Rattle.network_walker.proofs.framing.rest_of.Goals as goal
 

@@ -1,5 +1,4 @@
 -- `pair_rule::Pairing::code` meets its contract: one number for each answer. Assumes nothing.
-use borrow.Author.Rules.{rules}
 use Rattle.pair_rule.proofs.Pairing.code.Goals as goal
 
 pub returns-in-None : goal.returns-in-None

@@ -1,7 +1,6 @@
 -- `policy_flags::SecurityPolicyFlags::set_version_threshold_for_routing` meets its contract: the definition at each version, computed.
 use Rattle.policy_flags.specs.Threshold.{with_threshold}
 use Rattle.policy_flags.proofs.Thresholds.{flag_set, rest_is, field_set}
-use borrow.Author.Rules.{rules}
 use Rattle.policy_flags.proofs.SecurityPolicyFlags.set_version_threshold_for_routing.Goals as goal
 
 pub returns-in-V1Or2 : goal.returns-in-V1Or2

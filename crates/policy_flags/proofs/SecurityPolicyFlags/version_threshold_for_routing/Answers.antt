@@ -2,7 +2,6 @@
 use mathlib.Core.Path.{sym, ◌∙◌}
 use Rattle.policy_flags.specs.Threshold.{version_of}
 use Rattle.policy_flags.proofs.Thresholds.{has_legacy, no_legacy, field_is, threshold_legacy, threshold_is, four_up, seven}
-use borrow.Author.Rules.{rules}
 use Rattle.policy_flags.proofs.SecurityPolicyFlags.version_threshold_for_routing.Goals as goal
 
 pub returns-then-contains : goal.returns-then-contains

@@ -1,6 +1,5 @@
 -- `timestamps::Timestamp::from_components` meets its contract: the definition in each of the bit's two cases.
 use native.Mathlib.Omega.{arith}
-use borrow.Author.Rules.{rules}
 use Rattle.timestamps.proofs.Timestamp.from_components.Goals as goal
 
 pub returns-then-authoritative : goal.returns-then-authoritative

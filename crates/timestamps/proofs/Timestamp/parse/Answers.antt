@@ -3,7 +3,6 @@ use mathlib.Core.Path.{sym, ap, ◌∙◌}
 use Rattle.refusal.specs.Answer.{on_given}
 use Rattle.wire.specs.Be.{answer64}
 use Rattle.timestamps.proofs.Stamps.{stamp, stamped}
-use borrow.Author.Rules.{rules}
 use Rattle.timestamps.proofs.Timestamp.parse.Goals as goal
 
 pub returns-in-Value : goal.returns-in-Value

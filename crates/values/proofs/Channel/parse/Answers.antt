@@ -5,7 +5,6 @@ use lib.ListN.{get_or}
 use Rattle.wire.proofs.Bes.{misfit_any, ruled_not, ruled_is}
 use Rattle.values.specs.Typed.{channel_of}
 use Rattle.values.proofs.Parses.{two_of_three}
-use borrow.Author.Rules.{rules}
 use Rattle.values.proofs.Channel.parse.Goals as goal
 
 pub returns-then-n-ne3 : goal.returns-then-n-ne3

@@ -3,7 +3,6 @@ use mathlib.Core.Path.{◌∙◌}
 use Rattle.wire.proofs.Bes.{misfit_any, ruled_not, ruled_is}
 use Rattle.values.specs.Typed.{policy_of}
 use Rattle.values.proofs.Parses.{two_and_two}
-use borrow.Author.Rules.{rules}
 use Rattle.values.proofs.SecurityPolicy.parse.Goals as goal
 
 pub returns-then-n-ne4 : goal.returns-then-n-ne4

@@ -1,7 +1,6 @@
 -- `values::SecurityPolicy::to_value` meets its contract: the definition, computed.
 use mathlib.Core.Path.{refl}
 use Rattle.wire_bytes.specs.Bytes.{bytes_of}
-use borrow.Author.Rules.{rules}
 use Rattle.values.proofs.SecurityPolicy.to_value.Goals as goal
 
 pub returns : goal.returns
