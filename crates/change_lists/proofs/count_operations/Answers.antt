@@ -1,15 +1,13 @@
 -- `change_lists::count_operations` meets its contract. The invariant: counting on from the place at, with n operations passed, gives the answer.
 -- The measure is what is left of the list.
-use mathlib.Core.Path.{◌≡◌, sym, ap, ◌∙◌}
-use Prim.Native.Nat.{◌-◌, ◌≤◌}
+use mathlib.Core.Path.{sym, ap, ◌∙◌}
+use Prim.Native.Nat.{◌≤◌}
 use native.Mathlib.Omega.{arith}
 use lib.ListN.{length}
 use borrow.Author.Rules.{rules}
 use borrow.Author.Tests.{lt-ltb, le-ltb}
 use Rattle.refusal.specs.Sizes.{most_bytes}
-use Rattle.refusal.specs.Answer.{on_given}
 use Rattle.change_lists.specs.Operations.{operations}
-use Rattle.change_lists.proofs.Reading.{ops_from}
 use Rattle.change_lists.proofs.Places.{turn_end, turn_bad, turn_set, turn_removal, set_within, removal_inside}
 use Rattle.change_lists.proofs.Counts.{tally, tally_start, tally_more, tally_end, tally_bad}
 use Rattle.change_lists.proofs.count_operations.Goals as goal

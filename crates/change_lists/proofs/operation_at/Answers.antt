@@ -1,5 +1,4 @@
 -- `change_lists::operation_at` meets its contract: at each `return` the tests that led there say which case of `op_frame_at` holds.
-use borrow.Author.Rules.{rules}
 use borrow.Author.Tests.{lt-ltb, le-ltb, le-leb, lt-leb, eq-eqb, ne_eqb}
 use Rattle.change_lists.specs.Place.{op_frame_at}
 use Rattle.change_lists.proofs.operation_at.Goals as goal

@@ -1,6 +1,5 @@
 -- `change_lists::set_at` meets its contract.
 use mathlib.Core.Path.{sym, ap, ◌∙◌}
-use borrow.Author.Rules.{rules}
 use Rattle.change_lists.specs.Place.{set_at}
 use Rattle.change_lists.proofs.Places.{set_none}
 use borrow.Enum.Refused.{opened}

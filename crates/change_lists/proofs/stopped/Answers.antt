@@ -1,6 +1,5 @@
 -- `change_lists::stopped` meets its contract, by its two tests.
 use mathlib.Core.Path.{◌∙◌}
-use borrow.Author.Rules.{rules}
 use Rattle.change_lists.proofs.stopped.Goals as goal
 
 pub returns-then-bad : goal.returns-then-bad

@@ -7,7 +7,6 @@ use Rattle.tlv.specs.Entries.{framing}
 use Rattle.tlv.specs.Answers.{counted_answer}
 use Rattle.dataset_index.specs.Index.{index_bytes}
 use Rattle.dataset_index.proofs.Slots.{index_length, index_put, built_large, built_given, built_refused}
-use borrow.Author.Rules.{rules}
 use Rattle.dataset_index.proofs.build.Goals as goal
 
 pub returns-then-dataset-gt-MAX_BYTES : goal.returns-then-dataset-gt-MAX_BYTES

@@ -1,6 +1,5 @@
 -- `dataset_index::entry_at` meets its contract. Assumes nothing.
 use Rattle.dataset_index.proofs.Queries.{entry_hit, entry_miss, entry_none}
-use borrow.Author.Rules.{rules}
 use borrow.Enum.Refused.{opened}
 use Rattle.dataset_index.proofs.entry_at.Goals as goal
 

@@ -1,5 +1,4 @@
 -- `dataset_index::is_framed` meets its contract. Assumes nothing.
-use borrow.Author.Rules.{rules}
 use Rattle.dataset_index.proofs.Queries.{other_length, other_mark, second_mark}
 use Rattle.dataset_index.proofs.is_framed.Goals as goal
 

@@ -1,5 +1,4 @@
 -- `dataset_index::judged` meets its contract. Assumes nothing.
-use borrow.Author.Rules.{rules}
 use mathlib.Core.Path.{◌≡◌, sym, ap, ◌∙◌}
 use mathlib.Core.Bool.{Bool}
 use Rattle.refusal.specs.Answer.{pick, Answer, given, refused}

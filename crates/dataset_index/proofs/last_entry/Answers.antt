@@ -2,7 +2,6 @@
 use mathlib.Core.Path.{sym, ◌∙◌}
 use native.Mathlib.Omega.{arith}
 use Rattle.dataset_index.proofs.Queries.{framed_long, query_large, query_misframed, query_absent, query_led}
-use borrow.Author.Rules.{rules}
 use Rattle.dataset_index.proofs.last_entry.Goals as goal
 
 pub returns-then-dataset-gt-MAX_BYTES : goal.returns-then-dataset-gt-MAX_BYTES

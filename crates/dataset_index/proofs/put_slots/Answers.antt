@@ -1,13 +1,11 @@
 -- `dataset_index::put_slots` meets its contract. The invariant: the types from t on, stored from at on, make of out what all of them make of it.
 use borrow.Author.Rules.{rules}
-use mathlib.Core.Path.{◌≡◌, refl, sym, ap, ◌∙◌}
+use mathlib.Core.Path.{refl, sym, ap, ◌∙◌}
 use native.Mathlib.Omega.{arith}
-use Prim.Native.Nat.{◌+◌, ◌-◌, ◌*◌, ◌≤◌}
-use lib.ListN.{length}
+use Prim.Native.Nat.{◌+◌, ◌-◌}
 use Rattle.refusal.specs.Output.{put}
 use Rattle.laws.proofs.Puts.{put_none, put_then}
 use Rattle.wire.proofs.Round.{length_bytes}
-use Rattle.dataset_index.specs.Loops.{slots_in}
 use Rattle.dataset_index.proofs.Slots.{slots_next, slots_end}
 use Rattle.dataset_index.proofs.put_slots.Goals as goal
 

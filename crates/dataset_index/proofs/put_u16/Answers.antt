@@ -6,7 +6,6 @@ use lib.ListN.{length}
 use Rattle.refusal.specs.Output.{put}
 use Rattle.wire.proofs.Round.{length_bytes}
 use Rattle.laws.proofs.Emits.{placed_next, placed_left}
-use borrow.Author.Rules.{rules}
 use Rattle.dataset_index.proofs.put_u16.Goals as goal
 
 pub returns : goal.returns

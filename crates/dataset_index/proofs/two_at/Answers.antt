@@ -1,7 +1,6 @@
 -- `dataset_index::two_at` meets its contract. Assumes nothing.
 use Prim.Native.Nat.{◌+◌}
 use native.Mathlib.Omega.{arith}
-use borrow.Author.Rules.{rules}
 use Rattle.dataset_index.proofs.two_at.Goals as goal
 
 pub overflow_cast-result : goal.overflow_cast-result

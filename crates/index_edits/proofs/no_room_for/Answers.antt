@@ -2,7 +2,6 @@
 use mathlib.Core.Path.{sym, ap, ◌∙◌}
 use Rattle.refusal.specs.Output.{written_answer}
 use Rattle.index_edits.specs.Loops.{no_room_for}
-use borrow.Author.Rules.{rules}
 use Rattle.index_edits.proofs.no_room_for.Goals as goal
 
 pub returns-in-Bytes : goal.returns-in-Bytes

@@ -2,7 +2,6 @@
 use mathlib.Core.Path.{sym, ap, ◌∙◌}
 use lib.Seq.{length-take-le}
 use Rattle.refusal.specs.Output.{Output, written_answer}
-use borrow.Author.Rules.{rules}
 use Rattle.index_edits.proofs.put_index.Goals as goal
 
 pub slice_bounds-build-end : goal.slice_bounds-build-end

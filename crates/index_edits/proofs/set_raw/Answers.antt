@@ -7,7 +7,6 @@ use Rattle.dataset_index.specs.Index.{index_size}
 use Rattle.dataset_index.specs.Answers.{loaded_answer}
 use Rattle.index_edits.proofs.Both.{load_stops, load_passes, no_index, edit_lies, both_left}
 use Rattle.index_edits.proofs.Updated.{set_built}
-use borrow.Author.Rules.{rules}
 use Rattle.index_edits.proofs.set_raw.Goals as goal
 
 pub returns-in-Refused : goal.returns-in-Refused

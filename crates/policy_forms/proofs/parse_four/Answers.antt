@@ -1,6 +1,5 @@
 -- `policy_forms::parse_four` meets its contract, by what the base's call answered.
 use Rattle.policy_forms.proofs.Modes.{four_is}
-use borrow.Author.Rules.{rules}
 use Rattle.policy_forms.proofs.parse_four.Goals as goal
 
 pub returns-in-Value : goal.returns-in-Value

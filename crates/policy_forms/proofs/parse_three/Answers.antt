@@ -5,7 +5,6 @@ use lib.ListN.{length}
 use Rattle.wire.proofs.Bes.{misfit_any, ruled_not, ruled_is}
 use Rattle.policy_forms.specs.Forms.{numbers_in, read}
 use Rattle.policy_forms.proofs.Modes.{three_of}
-use borrow.Author.Rules.{rules}
 use Rattle.policy_forms.proofs.parse_three.Goals as goal
 
 pub returns-then-n-ne3 : goal.returns-then-n-ne3

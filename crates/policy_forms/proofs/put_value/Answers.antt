@@ -3,7 +3,6 @@ use mathlib.Core.Path.{refl, ◌∙◌}
 use native.Mathlib.Omega.{arith}
 use native.Mathlib.Nat.{zero-add}
 use Rattle.laws.proofs.Emits.{emit_no_room, emit_done, placed_next, placed_left}
-use borrow.Author.Rules.{rules}
 use Rattle.policy_forms.proofs.put_value.Goals as goal
 
 pub returns-then-value-out : goal.returns-then-value-out

@@ -4,7 +4,6 @@ use native.Mathlib.Omega.{arith}
 use native.Mathlib.Nat.{add-sub_cancel_left}
 use Rattle.dataset.proofs.Finds.{found_inside}
 use Rattle.policy_forms.proofs.Modes.{query_at, query_none, query_refused}
-use borrow.Author.Rules.{rules}
 use Rattle.policy_forms.proofs.security_policy.Goals as goal
 
 pub overflow_add-start : goal.overflow_add-start

@@ -4,7 +4,6 @@ use Prim.Native.Nat.{◌%◌}
 use native.Mathlib.Omega.{arith}
 use Rattle.wire_bytes.specs.Bytes.{bytes_of}
 use Rattle.policy_forms.specs.Forms.{stored_bytes}
-use borrow.Author.Rules.{rules}
 use Rattle.policy_forms.proofs.three_bytes.Goals as goal
 
 pub returns : goal.returns

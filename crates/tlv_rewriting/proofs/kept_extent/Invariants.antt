@@ -1,19 +1,10 @@
 -- `tlv_rewriting::kept_extent` meets its contract. The invariant: what is counted, and what the entries from at on take, is what all take.
 -- The measure is what is left of the input.
-use mathlib.Core.Path.{◌≡◌, sym, ap, ◌∙◌}
-use mathlib.Core.List.{List}
+use mathlib.Core.Path.{◌≡◌}
 use Prim.Native.Nat.{◌+◌, ◌*◌, ◌-◌, ◌≤◌}
-use native.Mathlib.Omega.{arith}
-use native.Mathlib.Nat.{zero-add}
 use lib.ListN.{length}
-use borrow.Author.Rules.{rules}
-use Rattle.tlv.specs.Entries.{Content}
 use Rattle.tlv_writing.specs.Encode.{encode_all}
-use Rattle.tlv_rewriting.specs.Loops.{extent_of}
-use Rattle.tlv.proofs.Walks.{turn_entries, turn_none, turn_inside}
-use Rattle.tlv_writing.proofs.Encodes.{size_bound, entry_size_lem}
-use Rattle.tlv_writing.proofs.Several.{encode_none}
-use Rattle.tlv_rewriting.proofs.Kept.{kept_from, kept_start, kept_end, turn_skip, length_keep, count_keep, extent_is}
+use Rattle.tlv_rewriting.proofs.Kept.{kept_from}
 use Rattle.tlv_rewriting.proofs.kept_extent.Given as goal
 
 abbrev pub invariant-loop-ty : goal.invariant-loop-ty

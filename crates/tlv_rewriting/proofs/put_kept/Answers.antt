@@ -1,7 +1,6 @@
 -- `tlv_rewriting::put_kept` meets its contract. The invariant: what is left to write, stored from here on, makes of out what all the entries make of it.
 -- The measure is what is left of the input.
-use mathlib.Core.Path.{◌≡◌, refl, sym, ap, ◌∙◌}
-use Prim.Native.Nat.{◌+◌, ◌-◌, ◌≤◌}
+use mathlib.Core.Path.{refl, sym, ap, ◌∙◌}
 use native.Mathlib.Omega.{arith}
 use native.Mathlib.Nat.{zero-add, add-sub_cancel_left}
 use lib.ListN.{length}
@@ -14,7 +13,7 @@ use Rattle.tlv_writing.specs.Encode.{encode_all}
 use Rattle.tlv.proofs.Walks.{turn_entries, turn_none, turn_inside}
 use Rattle.tlv_writing.proofs.Encodes.{entry_placed}
 use Rattle.tlv_writing.proofs.Several.{encode_none, size_part}
-use Rattle.tlv_rewriting.proofs.Kept.{kept_from, kept_start, kept_end, turn_skip, bytes_keep, length_keep}
+use Rattle.tlv_rewriting.proofs.Kept.{kept_start, kept_end, turn_skip, bytes_keep, length_keep}
 use borrow.Enum.Refused.{opened}
 use Rattle.tlv_rewriting.proofs.put_kept.Goals as goal
 

@@ -1,18 +1,15 @@
 -- `tlv_rewriting::put_last` meets its contract.
 use mathlib.Core.Path.{◌≡◌, sym, ap, ◌∙◌}
 use mathlib.Core.List.{List}
-use Prim.Native.Nat.{ℕ, ◌+◌, ◌≤◌}
+use Prim.Native.Nat.{ℕ, ◌+◌}
 use native.Mathlib.Omega.{arith}
 use native.Mathlib.Nat.{zero-add}
 use lib.ListN.{length}
-use Rattle.refusal.specs.Sizes.{most_bytes}
-use Rattle.refusal.specs.Answer.{given}
 use Rattle.refusal.specs.Output.{put}
 use Rattle.laws.proofs.Puts.{put_then}
 use Rattle.laws.proofs.Emits.{emit_refused, emit_no_room, emit_done, placed_next, placed_left}
 use Rattle.tlv.specs.Entries.{Content, contents, framing}
-use Rattle.tlv.specs.Limits.{count}
-use Rattle.tlv_writing.specs.Encode.{size_of, encode_all, sized}
+use Rattle.tlv_writing.specs.Encode.{size_of, encode_all}
 use Rattle.tlv_rewriting.specs.Rewrite.{kept, added}
 use Rattle.tlv_rewriting.specs.Loops.{extent_of}
 use Rattle.tlv.specs.Answers.{counted_answer}
@@ -22,7 +19,6 @@ use Rattle.tlv.proofs.Tally.{counted_short}
 use Rattle.tlv_writing.proofs.Encodes.{size_bound, entry_size_lem, length_encode, entry_placed}
 use Rattle.tlv_writing.proofs.Several.{sized_bytes, sized_count, sized_is}
 use Rattle.tlv_rewriting.proofs.Sets.{add_bytes, add_length, add_count, add_refused, add_too_long, add_sized}
-use borrow.Author.Rules.{rules}
 use Rattle.tlv_rewriting.proofs.put_last.Goals as goal
 
 -- the bytes of the result, and how many entries it has, where the rest of it and the new entry are measured

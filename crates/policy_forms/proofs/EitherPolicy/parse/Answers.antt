@@ -1,5 +1,4 @@
 -- `policy_forms::EitherPolicy::parse` meets its contract, in each form.
-use borrow.Author.Rules.{rules}
 use Rattle.policy_forms.proofs.EitherPolicy.parse.Goals as goal
 
 pub returns-in-ThreeBytes : goal.returns-in-ThreeBytes

@@ -3,7 +3,6 @@ use mathlib.Core.Path.{ap}
 use Prim.Native.Nat.{ℕ}
 use Rattle.policy_forms.specs.declared.EitherPolicy.TheVariants as p
 use Rattle.policy_forms.specs.declared.ThresholdSet.TheVariants as t
-use borrow.Author.Rules.{rules}
 use Rattle.policy_forms.proofs.EitherPolicy.set_version_threshold_for_routing.Goals as goal
 
 pub returns-in-Three : goal.returns-in-Three

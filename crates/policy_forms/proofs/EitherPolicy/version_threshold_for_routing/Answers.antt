@@ -1,5 +1,4 @@
 -- `policy_forms::EitherPolicy::version_threshold_for_routing` meets its contract, in each form.
-use borrow.Author.Rules.{rules}
 use Rattle.policy_forms.proofs.EitherPolicy.version_threshold_for_routing.Goals as goal
 
 pub returns-in-Four : goal.returns-in-Four

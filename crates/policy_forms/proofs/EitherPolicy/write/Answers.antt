@@ -2,7 +2,6 @@
 use mathlib.Core.Path.{◌∙◌}
 use Rattle.policy_forms.specs.Forms.{stored_bytes}
 use Rattle.policy_forms.proofs.Round.{written_as}
-use borrow.Author.Rules.{rules}
 use Rattle.policy_forms.proofs.EitherPolicy.write.Goals as goal
 
 pub returns-in-Three : goal.returns-in-Three
