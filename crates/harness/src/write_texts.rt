@@ -2,19 +2,19 @@
 mod cells;
 mod fields;
 mod fits;
+mod lent_tables;
 mod record;
 mod rows;
-mod tables;
 
 use crate::edit_texts::lent::{lend, put_written};
 use crate::requests::{Values, asks};
 use crate::texts::Room;
 use fields::{Fields, fields_of};
+use lent_tables::{route64_of, tables_of};
 use network_bridge::PLACES;
 use record::record_of;
 use refusal::Written;
 use rows::rows_of;
-use tables::{route64_of, tables_of};
 use writing_bridge::{CHILD_PLACES, LIST_PLACES, Lengths};
 
 // Every place of each table is lent, also those past the rows that the line has: the record says how many are used.

@@ -1,7 +1,7 @@
--- `write_texts::tables::has_routes_of` is safe and ends. Assumes nothing.
+-- `write_texts::tables::border_routers_of` is safe and ends. Assumes nothing.
 use Prim.Native.Nat.{◌-◌}
 use borrow.Author.Rules.{rules}
-use Rattle.harness.proofs.write_texts.tables.has_routes_of.Given as goal
+use Rattle.harness.proofs.write_texts.lent_tables.border_routers_of.Given as goal
 
 abbrev pub invariant-loop-k : goal.invariant-loop-k
 invariant-loop-k l = Unit {0}
