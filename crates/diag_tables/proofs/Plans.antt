@@ -32,7 +32,7 @@ use Rattle.diag.specs.declared.OptNetworkData.TheVariants as o
 use Rattle.diag.specs.declared.NetDiagData.{NetDiagData}
 use Rattle.diag.specs.declared.Decoded.{Decoded}
 use Rattle.diag.specs.declared.Decoded.TheVariants as c
-use Rattle.diag_tables.specs.Tables.{prefixes_in, prefixes_of, roomed, answered, Outcome, outcome, written, decoded}
+use Rattle.diag_tables.specs.Tables.{prefixes_in, prefixes_of, roomed, answered, outcome, written, decoded}
 use Rattle.diag_tables.specs.Planned.{InsideAt, value_at, value_in, to_write, Planned}
 use Rattle.diag_tables.proofs.Held.{Held, held}
 

@@ -1,6 +1,5 @@
 -- `diag_tables::answer_for` meets its contract, by what the payload's decoder answered and by the room.
 use mathlib.Core.Path.{sym, ap, ◌∙◌}
-use borrow.Author.Rules.{rules}
 use Rattle.diag.specs.Answers.{decoded_answer}
 use Rattle.diag_tables.proofs.Plans.{plan_refused, plan_none, plan_full, plan_fits}
 use Rattle.diag_tables.proofs.answer_for.Goals as goal

@@ -2,7 +2,6 @@
 use mathlib.Core.Path.{sym}
 use native.Mathlib.Omega.{arith}
 use native.Mathlib.Nat.{add-sub_cancel_left}
-use borrow.Author.Rules.{rules}
 use Rattle.diag_tables.proofs.Values.{value_none, value_some, inside_some, value_refused}
 use Rattle.diag_tables.proofs.network_data_of.Goals as goal
 
