@@ -1,16 +1,11 @@
 -- `pairing::count_lists` meets its contract. The invariant: counted + others lists are numbered, the entries from at on are still to be.
-use mathlib.Core.Path.{sym, ap, ◌∙◌}
-use Prim.Native.Nat.{◌+◌, ◌-◌, ◌%◌, ◌≤◌}
-use native.Mathlib.Omega.{arith}
-use native.Mathlib.Nat.{add-sub_cancel_left}
+use Prim.Native.Nat.{◌+◌, ◌-◌, ◌≤◌}
 use lib.ListN.{length}
-use borrow.Author.Rules.{rules}
 use Rattle.refusal.specs.Sizes.{most_bytes}
 use Rattle.tlv.specs.Entries.{framing}
-use Rattle.tlv.proofs.Walks.{from, turn_entries, turn_inside, turn_none}
+use Rattle.tlv.proofs.Walks.{from}
 use Rattle.pairing.specs.Loops.{own_answer, lists_of, keys_of}
-use Rattle.pairing.proofs.Tallies.{Counting, counting_start, counting_more, counting_other, counting_end, counting_same, Placing, placing_start, placing_more, placing_other, placing_end, placing_same}
-use Rattle.pairing.proofs.Ids.{lists_start, lists_hit, lists_miss, lists_none, keys_own, keys_other, keys_none}
+use Rattle.pairing.proofs.Tallies.{Counting, Placing}
 use Rattle.pairing.proofs.count_lists.Given as goal
 
 abbrev pub invariant-loop-ty : goal.invariant-loop-ty

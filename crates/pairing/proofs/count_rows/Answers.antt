@@ -1,12 +1,8 @@
 -- `pairing::count_rows` meets its contract. The invariant: the counts so far, and the rows from k on, are those of all.
-use mathlib.Core.Path.{◌≡◌, refl}
-use Prim.Native.Nat.{◌-◌, ◌/◌, ◌≤◌}
+use mathlib.Core.Path.{refl}
 use native.Mathlib.Omega.{arith}
-use lib.ListN.{length, drop}
 use borrow.Author.Rules.{rules}
-use Rattle.refusal.specs.Sizes.{most_bytes}
-use Rattle.pairing.specs.Loops.{rows_of}
-use Rattle.pairing.proofs.Tallies.{Counting, counting_start, counting_more, counting_end}
+use Rattle.pairing.proofs.Tallies.{counting_start, counting_more, counting_end}
 use Rattle.pairing.proofs.Ids.{rows_next, rows_end}
 use Rattle.pairing.proofs.count_rows.Goals as goal
 

@@ -1,7 +1,6 @@
 -- `pairing::is_own` meets its contract.
 use mathlib.Core.Path.{◌∙◌}
 use Rattle.pairing.specs.Loops.{is_own}
-use borrow.Author.Rules.{rules}
 use Rattle.pairing.proofs.is_own.Goals as goal
 
 pub returns-in-Value : goal.returns-in-Value

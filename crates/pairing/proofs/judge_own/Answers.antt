@@ -1,7 +1,6 @@
 -- `pairing::judge_own` meets its contract.
 use mathlib.Core.Path.{◌∙◌}
 use Rattle.pairing.specs.Loops.{unclear_without}
-use borrow.Author.Rules.{rules}
 use Rattle.pairing.proofs.judge_own.Goals as goal
 
 pub returns-in-Value : goal.returns-in-Value

@@ -2,7 +2,6 @@
 use mathlib.Core.Path.{sym, ap, ◌∙◌}
 use Rattle.diag_rows.specs.Answers.{address_list_answer}
 use Rattle.pairing.proofs.Ids.{list_rloc_by}
-use borrow.Author.Rules.{rules}
 use Rattle.pairing.proofs.list_rloc16.Goals as goal
 
 pub returns-in-Value : goal.returns-in-Value

@@ -5,7 +5,6 @@ use native.Mathlib.Omega.{arith}
 use Rattle.wire.specs.Be.{answer16}
 use Rattle.pairing.specs.Loops.{own_in}
 use Rattle.pairing.proofs.Ids.{own_by, own_absent}
-use borrow.Author.Rules.{rules}
 use Rattle.pairing.proofs.own_mac.Goals as goal
 
 pub returns-in-Value : goal.returns-in-Value

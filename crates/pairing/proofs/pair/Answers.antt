@@ -4,7 +4,6 @@ use Rattle.tlv.specs.Answers.{counted_answer}
 use Rattle.laws.proofs.Emits.{emit_refused, emit_no_room, emit_done}
 use Rattle.pairing.proofs.Payloads.{codes_refused, short_payload, short_table, codes_given, codes_many, codes_are, codes_length}
 use native.Mathlib.Omega.{arith}
-use borrow.Author.Rules.{rules}
 use Rattle.pairing.proofs.pair.Goals as goal
 
 pub returns-in-Refused : goal.returns-in-Refused

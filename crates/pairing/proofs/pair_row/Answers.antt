@@ -3,7 +3,6 @@ use mathlib.Core.Path.{sym, ap, ◌∙◌}
 use Rattle.tlv.specs.Answers.{counted_answer}
 use Rattle.pairing.proofs.Payloads.{row_refused, short_payload, short_table, row_absent, row_answered}
 use native.Mathlib.Omega.{arith}
-use borrow.Author.Rules.{rules}
 use Rattle.pairing.proofs.pair_row.Goals as goal
 
 pub returns-in-Refused : goal.returns-in-Refused

@@ -3,7 +3,6 @@ use mathlib.Core.Path.{sym, ap, ◌∙◌}
 use native.Mathlib.Omega.{arith}
 use Rattle.diag_rows.specs.Answers.{child_answer}
 use Rattle.pairing.proofs.Ids.{row_id_by, row_id_low}
-use borrow.Author.Rules.{rules}
 use Rattle.pairing.proofs.row_id.Goals as goal
 
 pub returns-in-Value : goal.returns-in-Value

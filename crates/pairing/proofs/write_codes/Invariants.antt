@@ -1,14 +1,9 @@
 -- `pairing::write_codes` meets its contract. The invariant: the numbers from k on, stored from k on, make all of them stored.
-use mathlib.Core.Path.{◌≡◌, refl, sym, ap, ◌∙◌}
+use mathlib.Core.Path.{◌≡◌}
 use Prim.Native.Nat.{◌-◌, ◌/◌, ◌≤◌}
-use native.Mathlib.Omega.{arith}
-use lib.ListN.{length, drop, length-set}
-use borrow.Author.Rules.{rules}
+use lib.ListN.{length, drop}
 use Rattle.refusal.specs.Output.{put}
-use Rattle.laws.proofs.Puts.{put_none}
-use Rattle.pair_rule.specs.Codes.{code_of}
 use Rattle.pairing.specs.Loops.{own_answer, rows_of, codes_by}
-use Rattle.pairing.proofs.Ids.{codes_turn, codes_end}
 use Rattle.pairing.proofs.write_codes.Given as goal
 
 abbrev pub invariant-loop-k : goal.invariant-loop-k

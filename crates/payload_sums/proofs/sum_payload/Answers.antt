@@ -3,7 +3,6 @@ use mathlib.Core.Path.{◌∙◌, ap, sym}
 use Rattle.refusal.specs.Answer.{given, on_given}
 use Rattle.diag.specs.Answers.{decoded_answer}
 use Rattle.payload_sums.specs.Rows.{payload_sum}
-use borrow.Author.Rules.{rules}
 use Rattle.payload_sums.proofs.sum_payload.Goals as goal
 
 pub payload_sum-requires : goal.payload_sum-requires

@@ -5,7 +5,6 @@ use Prim.Native.Nat.{ℕ}
 use native.Mathlib.Omega.{arith}
 use lib.ListN.{get_or}
 use Rattle.payload_sums.proofs.Rowed.{past}
-use borrow.Author.Rules.{rules}
 use Rattle.payload_sums.proofs.rows.address_at.Goals as goal
 
 pub returns-then-a-gt15 : goal.returns-then-a-gt15

@@ -3,7 +3,6 @@ use mathlib.Core.Path.{sym, ap, ◌∙◌}
 use Rattle.diag_rows.specs.Answers.{child_answer}
 use Rattle.payload_sums.specs.Sums.{or_zero}
 use Rattle.payload_sums.specs.Rows.{child_sum}
-use borrow.Author.Rules.{rules}
 use Rattle.payload_sums.proofs.rows.child_at.Goals as goal
 
 pub returns-in-Value : goal.returns-in-Value

@@ -2,7 +2,6 @@
 use mathlib.Core.Path.{refl}
 use Rattle.value_sums.proofs.Adds.{adds}
 use Rattle.payload_sums.specs.Rows.{child_sum}
-use borrow.Author.Rules.{rules}
 use Rattle.payload_sums.proofs.rows.child_sum.Goals as goal
 
 pub returns : goal.returns

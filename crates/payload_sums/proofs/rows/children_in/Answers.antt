@@ -2,7 +2,6 @@
 use Rattle.payload_sums.proofs.Rowed.{held}
 use native.Mathlib.Omega.{arith}
 use native.Mathlib.Nat.{add-sub_cancel_left}
-use borrow.Author.Rules.{rules}
 use Rattle.payload_sums.proofs.rows.children_in.Goals as goal
 
 pub overflow_add-end : goal.overflow_add-end

@@ -1,9 +1,7 @@
 -- `payload_sums::rows::children_sum` meets its contract. The invariant: what is summed so far is the sum of k rows.
-use mathlib.Core.Path.{◌≡◌, refl}
-use Prim.Native.Nat.{◌-◌, ◌/◌, ◌≤◌}
+use mathlib.Core.Path.{refl}
 use native.Mathlib.Omega.{arith}
-use lib.ListN.{length}
-use Rattle.payload_sums.specs.Rows.{summed, child_at}
+use Rattle.payload_sums.specs.Rows.{summed}
 use Rattle.payload_sums.proofs.Rowed.{summed_more, summed_done}
 use borrow.Author.Rules.{rules}
 use Rattle.payload_sums.proofs.rows.children_sum.Goals as goal

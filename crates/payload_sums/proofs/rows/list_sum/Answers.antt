@@ -7,7 +7,6 @@ use Rattle.payload_sums.specs.Sums.{or_zero}
 use Rattle.payload_sums.specs.Rows.{list_sum}
 use Rattle.value_sums.proofs.Adds.{adds}
 use Rattle.payload_sums.proofs.Rowed.{list_inside}
-use borrow.Author.Rules.{rules}
 use Rattle.payload_sums.proofs.rows.list_sum.Goals as goal
 
 pub overflow_add-end : goal.overflow_add-end

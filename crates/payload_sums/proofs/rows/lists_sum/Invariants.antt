@@ -1,18 +1,10 @@
 -- `payload_sums::rows::lists_sum` meets its contract. The invariant: the lists from at on, added to what is summed so far, make the sum of all.
-use Rattle.value_sums.specs.Sums.{plus}
-use mathlib.Core.Path.{◌≡◌, sym, ap, ◌∙◌}
+use mathlib.Core.Path.{◌≡◌}
 use Prim.Native.Nat.{◌-◌, ◌≤◌}
-use native.Mathlib.Omega.{arith}
-use native.Mathlib.Nat.{add-sub_cancel_left}
 use lib.ListN.{length}
-use Rattle.tlv.specs.Entries.{Framing}
-use Rattle.tlv_last.specs.Answers.{found_answer}
-use Rattle.tlv.proofs.Walks.{from, from_start}
+use Rattle.tlv.proofs.Walks.{from}
 use Rattle.diag_entries.specs.Parts.{all_of}
-use Rattle.child_lists.proofs.Lists.{follows, none_left}
 use Rattle.payload_sums.specs.Rows.{lists_onto, lists}
-use Rattle.payload_sums.proofs.Rowed.{lists_more, lists_done}
-use borrow.Author.Rules.{rules}
 use Rattle.payload_sums.proofs.rows.lists_sum.Given as goal
 
 abbrev pub invariant-loop-start : goal.invariant-loop-start

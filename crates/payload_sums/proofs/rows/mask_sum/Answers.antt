@@ -1,8 +1,6 @@
 -- `payload_sums::rows::mask_sum` meets its contract. The invariant: what is summed so far is the sum of k bytes.
-use mathlib.Core.Path.{◌≡◌, refl}
-use Prim.Native.Nat.{◌-◌, ◌≤◌}
+use mathlib.Core.Path.{refl}
 use native.Mathlib.Omega.{arith}
-use lib.ListN.{get_or}
 use Rattle.payload_sums.specs.Rows.{summed}
 use Rattle.payload_sums.proofs.Rowed.{summed_more, summed_done}
 use borrow.Author.Rules.{rules}

@@ -7,7 +7,6 @@ use Rattle.payload_sums.proofs.Routed.{read_counted}
 use mathlib.Core.Path.{ap, ◌∙◌}
 use native.Mathlib.Omega.{arith}
 use native.Mathlib.Nat.{add-sub_cancel_left}
-use borrow.Author.Rules.{rules}
 use Rattle.payload_sums.proofs.rows.routes_in.Goals as goal
 
 pub overflow_add-end : goal.overflow_add-end

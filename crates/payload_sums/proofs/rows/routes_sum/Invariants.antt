@@ -1,12 +1,9 @@
 -- `payload_sums::rows::routes_sum` meets its contract. The invariant: what is summed so far is the sum of k rows.
-use mathlib.Core.Path.{◌≡◌, refl, ◌∙◌}
+use mathlib.Core.Path.{◌≡◌}
 use Prim.Native.Nat.{◌-◌, ◌≤◌}
-use native.Mathlib.Omega.{arith}
 use lib.ListN.{get_or}
 use Rattle.payload_sums.specs.Rows.{summed, route_sum}
-use Rattle.payload_sums.proofs.Rowed.{summed_more, summed_done}
 use Rattle.route64.specs.Routes.{route_row}
-use borrow.Author.Rules.{rules}
 use Rattle.payload_sums.proofs.rows.routes_sum.Given as goal
 
 abbrev pub invariant-loop-k : goal.invariant-loop-k

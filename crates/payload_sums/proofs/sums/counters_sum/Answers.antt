@@ -1,7 +1,6 @@
 -- `payload_sums::sums::counters_sum` meets its contract.
 use Rattle.value_sums.proofs.Adds.{adds}
 use mathlib.Core.Path.{refl}
-use borrow.Author.Rules.{rules}
 use Rattle.payload_sums.proofs.sums.counters_sum.Goals as goal
 
 pub returns : goal.returns

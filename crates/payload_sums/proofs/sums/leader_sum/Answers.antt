@@ -1,7 +1,6 @@
 -- `payload_sums::sums::leader_sum` meets its contract.
 use Rattle.value_sums.proofs.Adds.{adds}
 use mathlib.Core.Path.{refl}
-use borrow.Author.Rules.{rules}
 use Rattle.payload_sums.proofs.sums.leader_sum.Goals as goal
 
 pub returns : goal.returns

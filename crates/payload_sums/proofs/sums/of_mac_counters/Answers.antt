@@ -1,5 +1,4 @@
 -- `payload_sums::sums::of_mac_counters` meets its contract.
-use borrow.Author.Rules.{rules}
 use Rattle.payload_sums.proofs.sums.of_mac_counters.Goals as goal
 
 pub returns-in-Some : goal.returns-in-Some

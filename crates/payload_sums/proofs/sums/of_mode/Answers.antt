@@ -1,5 +1,4 @@
 -- `payload_sums::sums::of_mode` meets its contract.
-use borrow.Author.Rules.{rules}
 use Rattle.payload_sums.proofs.sums.of_mode.Goals as goal
 
 pub returns-in-Some : goal.returns-in-Some

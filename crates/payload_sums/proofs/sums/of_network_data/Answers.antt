@@ -1,5 +1,4 @@
 -- `payload_sums::sums::of_network_data` meets its contract.
-use borrow.Author.Rules.{rules}
 use Rattle.payload_sums.proofs.sums.of_network_data.Goals as goal
 
 pub returns-in-Some : goal.returns-in-Some
