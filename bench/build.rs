@@ -1,4 +1,4 @@
-//! Links the library's calls, which `rt staticlib speed` has proved and compiled.
+//! Links the library's calls, which `rt lib` has proved and compiled in crates/speed.
 fn main() {
     let folder = std::env::var("SPEED").expect("SPEED: the folder that has libspeed.a");
     println!("cargo:rustc-link-search=native={folder}");

@@ -8,6 +8,7 @@ use diag_rules::Judged;
 use network_data::{Checked, HasRouteEntry, PrefixEntry};
 use network_tables::ReadHasRoute;
 use route64::{Route64, RouteDataEntry};
+use std::io;
 
 // A router and its route, as `, router 0 (2, 1, 15)`.
 fn put_row(text: &mut Room, at: usize, row: RouteDataEntry) -> usize {
@@ -31,7 +32,7 @@ fn put_rows(text: &mut Room, at: usize, route: Route64) -> usize {
     next
 }
 
-fn routes(score: Score, value: &[u8], stated: &[u8]) -> Score {
+fn routes(score: Score, value: &[u8], stated: &[u8]) -> io::Result<Score> {
     let mut text = empty();
     let said = put_said(&mut text, b"Route64 ", value, b": ");
     let read = route64::decode_route64(value, 0);
@@ -71,7 +72,7 @@ fn put_child(text: &mut Room, at: usize, child: ChildTableEntry) -> usize {
     )
 }
 
-fn child(score: Score, value: &[u8], stated: &[u8]) -> Score {
+fn child(score: Score, value: &[u8], stated: &[u8]) -> io::Result<Score> {
     let mut text = empty();
     let said = put_said(&mut text, b"child row ", value, b": ");
     let end = match diag_rows::child_row(value, 0) {
@@ -88,7 +89,7 @@ fn put_has_route(text: &mut Room, at: usize, row: HasRouteEntry) -> usize {
     put_either(text, preference, row.is_nat64, b", NAT64", b", no NAT64")
 }
 
-fn has_route(score: Score, value: &[u8], stated: &[u8]) -> Score {
+fn has_route(score: Score, value: &[u8], stated: &[u8]) -> io::Result<Score> {
     let mut text = empty();
     let said = put_said(&mut text, b"HasRoute of Network Data ", value, b": ");
     let end = match network_tables::has_route_at(value, 0) {
@@ -108,7 +109,7 @@ fn put_prefix(text: &mut Room, at: usize, entry: PrefixEntry) -> usize {
     put_hex(text, word, part_of(&bytes, 0, (bits + 7) / 8))
 }
 
-fn network(score: Score, value: &[u8], stated: &[u8]) -> Score {
+fn network(score: Score, value: &[u8], stated: &[u8]) -> io::Result<Score> {
     let mut text = empty();
     let said = put_said(&mut text, b"Network Data ", value, b": ");
     let first = network_tables::prefix_at(value, 0);
@@ -123,33 +124,33 @@ fn network(score: Score, value: &[u8], stated: &[u8]) -> Score {
     judge(score, &mut text, said, end, stated)
 }
 
-pub(crate) fn lines(score: Score) -> Score {
+pub(crate) fn lines(score: Score) -> io::Result<Score> {
     // "Route64 of 9 bytes, zero mask: no rows."
-    let mut s = routes(score, b"\x00\x00\x00\x00\x00\x00\x00\x00\x00", b"rows 0");
+    let mut s = routes(score, b"\x00\x00\x00\x00\x00\x00\x00\x00\x00", b"rows 0")?;
     // "`07 80 00 00 00 00 00 00 01 9F 24`: router 0 (2, 1, 15), router 63 (0, 2, 4). With `24` dropped: 4."
     s = routes(
         s,
         b"\x07\x80\x00\x00\x00\x00\x00\x00\x01\x9F\x24",
         b"rows 2, router 0 (2, 1, 15), router 63 (0, 2, 4)",
-    );
+    )?;
     s = routes(
         s,
         b"\x07\x80\x00\x00\x00\x00\x00\x00\x01\x9F",
         b"refused 4 0 0",
-    );
+    )?;
     // "Child row `81 05 08`: exponent 16, quality 0, ID 261, 4,096 s, receiver on, minimal device."
     s = child(
         s,
         b"\x81\x05\x08",
         b"exponent 16, quality 0, ID 261, 4096 s, receiver on, minimal device",
-    );
+    )?;
     // "HasRoute `A8 00 60`: 0xA800, 1, NAT64.": the row in a prefix of no bits
     s = has_route(
         s,
         b"\x02\x07\x00\x00\x00\x03\xA8\x00\x60",
         b"0xA800, 1, NAT64",
-    );
+    )?;
     // "Network Data `03 03 00 04 FD`: one 4-bit prefix; `03 02 00 04`: 5."
-    s = network(s, b"\x03\x03\x00\x04\xFD", b"prefixes 1: 4 bits FD");
+    s = network(s, b"\x03\x03\x00\x04\xFD", b"prefixes 1: 4 bits FD")?;
     network(s, b"\x03\x02\x00\x04", b"refused 5 0 0")
 }

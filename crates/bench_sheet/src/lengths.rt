@@ -4,6 +4,7 @@ use crate::text::{
     ROOM, Room, empty, part_of, put, put_either, put_hex, put_number, put_refusal, same,
 };
 use refusal::Written;
+use std::io;
 
 // A value of which no two neighbours are the same.
 fn long_value() -> Room {
@@ -58,7 +59,7 @@ fn write_mask(mask: &[u8], out: &mut [u8], lent: usize) -> Written {
     channel_masks::write_mask_item(0, mask, out)
 }
 
-fn entry(score: Score, n: usize, lent: usize, stated: &[u8]) -> Score {
+fn entry(score: Score, n: usize, lent: usize, stated: &[u8]) -> io::Result<Score> {
     let mut text = empty();
     let mut out = empty();
     let all = long_value();
@@ -69,7 +70,7 @@ fn entry(score: Score, n: usize, lent: usize, stated: &[u8]) -> Score {
     judge(score, &mut text, said, end, stated)
 }
 
-fn mask(score: Score, n: usize, lent: usize, stated: &[u8]) -> Score {
+fn mask(score: Score, n: usize, lent: usize, stated: &[u8]) -> io::Result<Score> {
     let mut text = empty();
     let mut out = empty();
     let all = long_value();
@@ -80,20 +81,20 @@ fn mask(score: Score, n: usize, lent: usize, stated: &[u8]) -> Score {
     judge(score, &mut text, said, end, stated)
 }
 
-pub(crate) fn lines(score: Score) -> Score {
+pub(crate) fn lines(score: Score) -> io::Result<Score> {
     // "value lengths 254, 255, 65,535 are written; 65,536 is 13", and 11 is an output that is one byte too short
-    let mut s = entry(score, 254, 256, b"03 FE and the value");
-    s = entry(s, 254, 255, b"refused 11 0 0");
-    s = entry(s, 255, 259, b"03 FF 00 FF and the value");
-    s = entry(s, 255, 258, b"refused 11 0 0");
-    s = entry(s, 65535, 65539, b"03 FF FF FF and the value");
-    s = entry(s, 65535, 65538, b"refused 11 0 0");
-    s = entry(s, 65536, 65540, b"refused 13 0 0");
+    let mut s = entry(score, 254, 256, b"03 FE and the value")?;
+    s = entry(s, 254, 255, b"refused 11 0 0")?;
+    s = entry(s, 255, 259, b"03 FF 00 FF and the value")?;
+    s = entry(s, 255, 258, b"refused 11 0 0")?;
+    s = entry(s, 65535, 65539, b"03 FF FF FF and the value")?;
+    s = entry(s, 65535, 65538, b"refused 11 0 0")?;
+    s = entry(s, 65536, 65540, b"refused 13 0 0")?;
     // the same of a mask, of which the table says: 13, "mask item over 255"
-    s = mask(s, 254, 256, b"00 FE and the value");
-    s = mask(s, 255, 257, b"00 FF and the value");
-    s = mask(s, 255, 256, b"refused 11 0 0");
-    s = mask(s, 256, 65540, b"refused 13 0 0");
-    s = mask(s, 65535, 65540, b"refused 13 0 0");
+    s = mask(s, 254, 256, b"00 FE and the value")?;
+    s = mask(s, 255, 257, b"00 FF and the value")?;
+    s = mask(s, 255, 256, b"refused 11 0 0")?;
+    s = mask(s, 256, 65540, b"refused 13 0 0")?;
+    s = mask(s, 65535, 65540, b"refused 13 0 0")?;
     mask(s, 65536, 65540, b"refused 13 0 0")
 }

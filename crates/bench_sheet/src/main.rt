@@ -11,13 +11,18 @@ mod text;
 mod values;
 
 use sheet::Score;
+use std::io;
 
-fn main() {
-    let mut score = Score { lines: 0, good: 0 };
-    score = framing::lines(score);
-    score = lengths::lines(score);
-    score = values::lines(score);
-    score = diag::lines(score);
-    score = lists::lines(score);
-    sheet::total(score);
+fn main(rt: HostRuntime) -> io::Result<()> {
+    let mut score = Score {
+        to: rt.stdout(),
+        lines: 0,
+        good: 0,
+    };
+    score = framing::lines(score)?;
+    score = lengths::lines(score)?;
+    score = values::lines(score)?;
+    score = diag::lines(score)?;
+    score = lists::lines(score)?;
+    sheet::total(score)
 }

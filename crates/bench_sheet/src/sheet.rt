@@ -1,11 +1,14 @@
 // A line of the sheet: what it says of an input, what was got, and whether that is what the sheet states.
 use crate::text::{Room, empty, part_of, put, put_hex, put_number, put_refusal, same};
 use refusal::Written;
+use std::io;
+use std::io::Stdout;
 use std::num::wrapping_add_u64;
 
-// How many lines were run, and how many of them gave what the sheet states.
+// Where the lines are printed, how many were run, and how many of them gave what the sheet states.
 #[derive(Clone, Copy)]
 pub(crate) struct Score {
+    pub(crate) to: Stdout,
     pub(crate) lines: u64,
     pub(crate) good: u64,
 }
@@ -34,8 +37,8 @@ fn put_verdict(text: &mut Room, at: usize, good: bool, stated: &[u8]) -> usize {
     put(text, end, b"\n")
 }
 
-fn print(text: &Room, end: usize) {
-    io::write_all(1, part_of(text, 0, end));
+fn print(to: Stdout, text: &Room, end: usize) -> io::Result<()> {
+    to.write_all(part_of(text, 0, end))
 }
 
 // Ends a line, whose text from start up to end is what was got, and prints it.
@@ -45,28 +48,30 @@ pub(crate) fn judge(
     start: usize,
     end: usize,
     stated: &[u8],
-) -> Score {
+) -> io::Result<Score> {
     let good = same(part_of(text, start, end), stated);
     let last = put_verdict(text, end, good, stated);
-    print(text, last);
+    print(score.to, text, last)?;
     let lines = wrapping_add_u64(score.lines, 1);
     if good {
-        return Score {
+        return Ok(Score {
+            to: score.to,
             lines: lines,
             good: wrapping_add_u64(score.good, 1),
-        };
+        });
     }
-    Score {
+    Ok(Score {
+        to: score.to,
         lines: lines,
         good: score.good,
-    }
+    })
 }
 
 // The last line.
-pub(crate) fn total(score: Score) {
+pub(crate) fn total(score: Score) -> io::Result<()> {
     let mut text = empty();
     let good = put_number(&mut text, 0, b"", score.good);
     let lines = put_number(&mut text, good, b" of ", score.lines);
     let last = put(&mut text, lines, b" lines as stated\n");
-    print(&text, last);
+    print(score.to, &text, last)
 }

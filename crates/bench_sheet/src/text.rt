@@ -1,4 +1,5 @@
 // Text: each function puts its piece into the text from a place on, as far as there is room, and gives the place after it.
+use itoa::Buffer;
 use refusal::Refusal;
 
 // As many bytes as the longest entry has. The text of a line, a value and a lent output are each one of these.
@@ -86,10 +87,9 @@ pub(crate) fn put_word(text: &mut Room, at: usize, x: u16) -> usize {
 
 // A number in decimal, after a text.
 pub(crate) fn put_number(text: &mut Room, at: usize, before: &[u8], n: u64) -> usize {
-    let mut digits = [0u8; 20];
-    let k = io::decimal(n, &mut digits);
+    let mut digits = Buffer::new();
     let next = put(text, at, before);
-    put(text, next, &digits[..k])
+    put(text, next, digits.format(n).as_bytes())
 }
 
 // One text or another.

@@ -2,9 +2,16 @@
 use crate::sheet::{Score, judge};
 use crate::text::{Room, empty, put, put_either, put_hex, put_number, put_word};
 use policy_flags::{SecurityPolicyFlags, ThreadProtocolVersion};
+use std::io;
 use timestamps::Timestamp;
 
-fn built(score: Score, seconds: u64, ticks: u16, authoritative: bool, stated: &[u8]) -> Score {
+fn built(
+    score: Score,
+    seconds: u64,
+    ticks: u16,
+    authoritative: bool,
+    stated: &[u8],
+) -> io::Result<Score> {
     let mut text = empty();
     let first = put_number(&mut text, 0, b"seconds ", seconds);
     let second = put_number(&mut text, first, b", ticks ", ticks as u64);
@@ -36,7 +43,12 @@ fn put_version(text: &mut Room, at: usize, version: ThreadProtocolVersion) -> us
 }
 
 // Flags set to a version: their bits, and the version that they read.
-fn set(score: Score, bits: u16, version: ThreadProtocolVersion, stated: &[u8]) -> Score {
+fn set(
+    score: Score,
+    bits: u16,
+    version: ThreadProtocolVersion,
+    stated: &[u8],
+) -> io::Result<Score> {
     let mut text = empty();
     let flag = put(&mut text, 0, b"flags ");
     let old = put_word(&mut text, flag, bits);
@@ -51,11 +63,11 @@ fn set(score: Score, bits: u16, version: ThreadProtocolVersion, stated: &[u8]) -
     judge(score, &mut text, said, end, stated)
 }
 
-pub(crate) fn lines(score: Score) -> Score {
+pub(crate) fn lines(score: Score) -> io::Result<Score> {
     // "Seconds 1, ticks 2, authoritative: `00 00 00 00 00 01 00 05`."
-    let mut s = built(score, 1, 2, true, b"00 00 00 00 00 01 00 05");
+    let mut s = built(score, 1, 2, true, b"00 00 00 00 00 01 00 05")?;
     // "Flags 0x0004 set to `V5`: 0x4000. 0xE000 set to `V1Or2`: 0xE004, reads `V1Or2`."
-    s = set(s, 0x0004, ThreadProtocolVersion::V5, b"0x4000, reads V5");
+    s = set(s, 0x0004, ThreadProtocolVersion::V5, b"0x4000, reads V5")?;
     set(
         s,
         0xE000,

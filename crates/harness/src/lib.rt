@@ -19,12 +19,21 @@ mod texts;
 mod value_texts;
 mod write_texts;
 
+use std::io;
+
 // Answers each line of the standard input, of which there may be any number, until its end. A line has up to 600,000 characters; a longer
 // one is answered once, as one bad request. Answers are written when there are many of them, and before more input is waited for.
-pub fn serve() {
+pub fn serve(rt: HostRuntime) -> io::Result<()> {
     let mut input = rooms::room();
     let mut arena = rooms::room();
     let mut out = rooms::lent();
     let mut text = rooms::room();
-    lines::answer_all(&mut input, &mut arena, &mut out, &mut text);
+    lines::answer_all(
+        rt.stdin(),
+        rt.stdout(),
+        &mut input,
+        &mut arena,
+        &mut out,
+        &mut text,
+    )
 }

@@ -1,10 +1,12 @@
 // Lines: read from standard input as they come, each answered, the answers written many at a time.
-ghost use Rattle.std.specs.Prelude.{◌≤◌, length};
+ghost use Rattle.std.specs.Prelude.{◌≤◌, length, IfOk};
 
 use crate::calls::{LONGEST_LINE, put_call};
 use crate::requests::{least, until};
 use crate::rooms::Lent;
 use crate::texts::{Room, put_byte, put_text};
+use std::io;
+use std::io::{Read, Stdin, Stdout};
 
 // The answer line.
 fn put_line(line: &[u8], arena: &mut Room, out: &mut Lent, text: &mut Room, at: usize) -> usize {
@@ -16,41 +18,47 @@ fn put_line(line: &[u8], arena: &mut Room, out: &mut Lent, text: &mut Room, at: 
 }
 
 // Writes the text up to a place.
-fn flush(text: &[u8], at: usize) {
+fn flush(to: Stdout, text: &[u8], at: usize) -> io::Result<()> {
     let n = least(at, text.len());
-    io::write_all(libc::STDOUT_FILENO, &text[0..n]);
+    to.write_all(&text[0..n])
 }
 
 // Writes the text if it is more than half full, so that every answer has room. The place where it goes on.
-fn flush_half(text: &[u8], at: usize) -> usize {
+fn flush_half(to: Stdout, text: &[u8], at: usize) -> io::Result<usize> {
     if at > text.len() / 2 {
-        flush(text, at);
-        return 0;
+        flush(to, text, at)?;
+        return Ok(0);
     }
-    at
+    Ok(at)
 }
 
 // Answers each line of s, the last one also where it has no newline.
-fn put_lines(s: &[u8], arena: &mut Room, out: &mut Lent, text: &mut Room) {
+fn put_lines(
+    to: Stdout,
+    s: &[u8],
+    arena: &mut Room,
+    out: &mut Lent,
+    text: &mut Room,
+) -> io::Result<()> {
     let mut at = 0;
     let mut start = 0;
     while start < s.len() {
         let end = start + until(&s[start..], b'\n');
         let next = put_line(&s[start..end], arena, out, text, at);
-        at = flush_half(text, next);
+        at = flush_half(to, text, next)?;
         start = end + 1;
     }
-    flush(text, at);
+    flush(to, text, at)
 }
 
 // Reads once behind the first `kept` bytes of input. How many bytes are there now: as many as before at the end of the input.
-fn read_more(input: &mut [u8], kept: usize) -> usize
+fn read_more(mut from: Stdin, input: &mut [u8], kept: usize) -> io::Result<usize>
     requires { kept ≤ length input.old }
-    ensures lower_bound { kept ≤ result }
-    ensures result_bound { result ≤ length input.old }
+    ensures lower_bound { IfOk result (λ n. kept ≤ n) }
+    ensures result_bound { IfOk result (λ n. n ≤ length input.old) }
 {
-    let got = libc::read(libc::STDIN_FILENO, &mut input[kept..]);
-    kept + io::count(got, &input[kept..])
+    let got = from.read(&mut input[kept..])?;
+    Ok(kept + got)
 }
 
 // How much of s is to be answered now: up to its last newline, or all where nothing is new behind the bytes that were kept.
@@ -87,33 +95,43 @@ fn to_front(s: &mut [u8], start: usize, end: usize) -> usize
 
 // Reads once, and answers each line that is whole. How many bytes are kept, which begin a line; more than input has where it has ended.
 fn take_turn(
+    from: Stdin,
+    to: Stdout,
     input: &mut [u8],
     kept: usize,
     arena: &mut Room,
     out: &mut Lent,
     text: &mut Room,
-) -> usize
+) -> io::Result<usize>
     requires { kept ≤ length input.old }
 {
-    let end = read_more(input, kept);
+    let end = read_more(from, input, kept)?;
     let whole = whole_lines(&input[0..end], kept);
-    put_lines(&input[0..whole], arena, out, text);
+    put_lines(to, &input[0..whole], arena, out, text)?;
     if end == kept {
-        return usize::MAX;
+        return Ok(usize::MAX);
     }
-    to_front(input, whole, end)
+    Ok(to_front(input, whole, end))
 }
 
 // Answers every line of the standard input. Nothing says that an input ends, so the turns are counted, down from 2^64 - 1.
-pub(crate) fn answer_all(input: &mut [u8], arena: &mut Room, out: &mut Lent, text: &mut Room) {
+pub(crate) fn answer_all(
+    from: Stdin,
+    to: Stdout,
+    input: &mut [u8],
+    arena: &mut Room,
+    out: &mut Lent,
+    text: &mut Room,
+) -> io::Result<()> {
     let mut turns = u64::MAX;
     let mut kept: usize = 0;
     while turns > 0 {
-        let next = take_turn(input, kept, arena, out, text);
+        let next = take_turn(from, to, input, kept, arena, out, text)?;
         if next > input.len() {
-            return;
+            return Ok(());
         }
         kept = next;
         turns -= 1;
     }
+    Ok(())
 }

@@ -2,6 +2,7 @@
 ghost use Rattle.std.specs.Prelude.{◌≡◌};
 ghost use Rattle.refusal.specs.Answer.{pick};
 
+use itoa::Buffer;
 use refusal::Refusal;
 
 // The size of the probe's buffers: more than the longest line has characters, and more than twice what the longest answer has, which is all
@@ -95,9 +96,8 @@ pub(crate) fn put_hex(text: &mut Room, at: usize, s: &[u8]) -> usize {
 }
 
 pub(crate) fn put_number(text: &mut Room, at: usize, n: u64) -> usize {
-    let mut digits = [0u8; 20];
-    let k = io::decimal(n, &mut digits);
-    put_text(text, at, &digits[..k])
+    let mut digits = Buffer::new();
+    put_text(text, at, digits.format(n).as_bytes())
 }
 
 // A mark, and a number.

@@ -2,12 +2,17 @@
 #![tactic(auto)]
 
 use refusal::Written;
+use std::io;
+use std::io::Read;
 
-fn main() {
-    let mut input = [0u8; listing::REPORT_READS];
+fn main(rt: HostRuntime) -> io::Result<()> {
+    let mut input = Vec::new(rt.alloc());
+    rt.stdin()
+        .take(listing::REPORT_READS as u64)
+        .read_to_end(&mut input)?;
     let mut text = [0u8; nested_listing::REPORT_BYTES];
-    let n = io::read_full(0, &mut input);
-    if let Written::Bytes(k) = nested_listing::report_text(&input[..n], &mut text) {
-        io::write_all(1, &text[0..k]);
+    if let Written::Bytes(k) = nested_listing::report_text(&input, &mut text) {
+        rt.write_all(&text[0..k])?;
     }
+    Ok(())
 }

@@ -6,9 +6,9 @@ use Rattle.one_answer.proofs.General.{both}
 use Rattle.one_answer.specs.One.{One}
 
 -- change_lists::operation_at
-pub operation_at : One Rattle.change_lists.specs.contracts.operation_at.ended (λ M. Rattle.change_lists.specs.contracts.operation_at.clauses)
+pub operation_at : One Rattle.change_lists.specs.contracts.operation_at.ended (λ M 𝓤. Rattle.change_lists.specs.contracts.operation_at.clauses)
 operation_at x r q left over = both x.𝓤 _ _ _ (λ e f. (e ∙ sym f, refl))
 
 -- change_lists::count_operations
-pub count_operations : One Rattle.change_lists.specs.contracts.count_operations.ended (λ M. Rattle.change_lists.specs.contracts.count_operations.clauses)
+pub count_operations : One Rattle.change_lists.specs.contracts.count_operations.ended (λ M 𝓤. Rattle.change_lists.specs.contracts.count_operations.clauses)
 count_operations x r q left over = both x.𝓤 _ _ _ (λ e f. (counted_tells r q (e ∙ sym f), refl))

@@ -6,5 +6,5 @@ use Rattle.one_answer.proofs.General.{both}
 use Rattle.one_answer.specs.One.{One}
 
 -- connectivity::decode_connectivity
-pub decode_connectivity : One Rattle.connectivity.specs.contracts.decode_connectivity.ended (λ M. Rattle.connectivity.specs.contracts.decode_connectivity.clauses)
+pub decode_connectivity : One Rattle.connectivity.specs.contracts.decode_connectivity.ended (λ M 𝓤. Rattle.connectivity.specs.contracts.decode_connectivity.clauses)
 decode_connectivity x r q left over = both x.𝓤 _ _ _ (λ e f. (connectivity_tells r q (e ∙ sym f), refl))

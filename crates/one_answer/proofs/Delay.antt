@@ -6,17 +6,17 @@ use Rattle.one_answer.proofs.General.{both}
 use Rattle.one_answer.specs.One.{One}
 
 -- delay::working_delay
-pub working_delay : One Rattle.delay.specs.contracts.working_delay.ended (λ M. Rattle.delay.specs.contracts.working_delay.clauses)
+pub working_delay : One Rattle.delay.specs.contracts.working_delay.ended (λ M 𝓤. Rattle.delay.specs.contracts.working_delay.clauses)
 working_delay x r q left over = both x.𝓤 _ _ _ (λ e f. (working_tells r q (e ∙ sym f), refl))
 
 -- delay::working_delay_half_minute
-pub working_delay_half_minute : One Rattle.delay.specs.contracts.working_delay_half_minute.ended (λ M. Rattle.delay.specs.contracts.working_delay_half_minute.clauses)
+pub working_delay_half_minute : One Rattle.delay.specs.contracts.working_delay_half_minute.ended (λ M 𝓤. Rattle.delay.specs.contracts.working_delay_half_minute.clauses)
 working_delay_half_minute x r q left over = both x.𝓤 _ _ _ (λ e f. (working_tells r q (e ∙ sym f), refl))
 
 -- delay::due_second
-pub due_second : One Rattle.delay.specs.contracts.due_second.ended (λ M. Rattle.delay.specs.contracts.due_second.clauses)
+pub due_second : One Rattle.delay.specs.contracts.due_second.ended (λ M 𝓤. Rattle.delay.specs.contracts.due_second.clauses)
 due_second x r q left over = both x.𝓤 _ _ _ (λ e f. (due_tells r q (e ∙ sym f), refl))
 
 -- delay::due_second_half_minute
-pub due_second_half_minute : One Rattle.delay.specs.contracts.due_second_half_minute.ended (λ M. Rattle.delay.specs.contracts.due_second_half_minute.clauses)
+pub due_second_half_minute : One Rattle.delay.specs.contracts.due_second_half_minute.ended (λ M 𝓤. Rattle.delay.specs.contracts.due_second_half_minute.clauses)
 due_second_half_minute x r q left over = both x.𝓤 _ _ _ (λ e f. (due_tells r q (e ∙ sym f), refl))

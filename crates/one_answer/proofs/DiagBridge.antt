@@ -6,5 +6,5 @@ use Rattle.one_answer.proofs.General.{both}
 use Rattle.one_answer.specs.One.{One}
 
 -- diag_bridge::decode
-pub decode : One Rattle.diag_bridge.specs.contracts.decode.ended (λ M. Rattle.diag_bridge.specs.contracts.decode.clauses)
+pub decode : One Rattle.diag_bridge.specs.contracts.decode.ended (λ M 𝓤. Rattle.diag_bridge.specs.contracts.decode.clauses)
 decode x r q left over = both x.𝓤 _ _ _ (λ e f. (left_tells x.passed.0.now r q (e ∙ sym f), refl))

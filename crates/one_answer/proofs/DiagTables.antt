@@ -6,5 +6,5 @@ use Rattle.one_answer.proofs.General.{both}
 use Rattle.one_answer.specs.One.{One}
 
 -- diag_tables::decode
-pub decode : One Rattle.diag_tables.specs.contracts.decode.ended (λ M. Rattle.diag_tables.specs.contracts.decode.clauses)
+pub decode : One Rattle.diag_tables.specs.contracts.decode.ended (λ M 𝓤. Rattle.diag_tables.specs.contracts.decode.clauses)
 decode x r q left over = both x.𝓤 _ _ _ (λ e f. let same = outcome_tells x.passed.0.now r q _ _ _ _ _ _ (e ∙ sym f) in (same.0, λ i. (tt, (same.1 i, (same.2 i, (same.3 i, tt))))))

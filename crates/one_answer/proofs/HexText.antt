@@ -6,5 +6,5 @@ use Rattle.one_answer.proofs.General.{both, leaves}
 use Rattle.one_answer.specs.One.{One}
 
 -- hex_text::encode
-pub encode : One Rattle.hex_text.specs.contracts.encode.ended (λ M. Rattle.hex_text.specs.contracts.encode.clauses)
+pub encode : One Rattle.hex_text.specs.contracts.encode.ended (λ M 𝓤. Rattle.hex_text.specs.contracts.encode.clauses)
 encode x r q left over = both x.𝓤 _ _ _ (λ e f. let same = leaves written_answer written_tells _ r q _ _ e f in (same.0, λ i. (tt, (same.1 i, tt))))

@@ -6,9 +6,9 @@ use Rattle.one_answer.proofs.General.{both}
 use Rattle.one_answer.specs.One.{One, OneBy}
 
 -- house_template::supplied_entry
-pub supplied_entry : One Rattle.house_template.specs.contracts.supplied_entry.ended (λ M. Rattle.house_template.specs.contracts.supplied_entry.clauses)
+pub supplied_entry : One Rattle.house_template.specs.contracts.supplied_entry.ended (λ M 𝓤. Rattle.house_template.specs.contracts.supplied_entry.clauses)
 supplied_entry x r q left over = both x.𝓤 _ _ _ (λ e f. (supplied_tells r q (e ∙ sym f), refl))
 
 -- house_template::supplied_value
-pub supplied_value : OneBy Rattle.house_template.specs.contracts.supplied_value.ended (λ κs r. r.now) (λ M. Rattle.house_template.specs.contracts.supplied_value.clauses)
+pub supplied_value : OneBy Rattle.house_template.specs.contracts.supplied_value.ended (λ κs r. r.now) (λ M 𝓤. Rattle.house_template.specs.contracts.supplied_value.clauses)
 supplied_value x r q left over = both x.𝓤 _ _ _ (λ e f. (e ∙ sym f, refl))

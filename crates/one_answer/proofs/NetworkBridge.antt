@@ -6,5 +6,5 @@ use Rattle.one_answer.proofs.General.{both}
 use Rattle.one_answer.specs.One.{One}
 
 -- network_bridge::decode
-pub decode : One Rattle.network_bridge.specs.contracts.decode.ended (λ M. Rattle.network_bridge.specs.contracts.decode.clauses)
+pub decode : One Rattle.network_bridge.specs.contracts.decode.ended (λ M 𝓤. Rattle.network_bridge.specs.contracts.decode.clauses)
 decode x r q left over = both x.𝓤 _ _ _ (λ e f. (decoded_tells r q (e ∙ sym f), refl))

@@ -6,5 +6,5 @@ use Rattle.one_answer.proofs.General.{both}
 use Rattle.one_answer.specs.One.{One}
 
 -- network_data::check
-pub check : One Rattle.network_data.specs.contracts.check.ended (λ M. Rattle.network_data.specs.contracts.check.clauses)
+pub check : One Rattle.network_data.specs.contracts.check.ended (λ M 𝓤. Rattle.network_data.specs.contracts.check.clauses)
 check x r q left over = both x.𝓤 _ _ _ (λ e f. (checked_tells r q (e ∙ sym f), refl))

@@ -6,5 +6,5 @@ use Rattle.one_answer.proofs.General.{both}
 use Rattle.one_answer.specs.One.{One}
 
 -- network_plans::plan_for
-pub plan_for : One Rattle.network_plans.specs.contracts.plan_for.ended (λ M. Rattle.network_plans.specs.contracts.plan_for.clauses)
+pub plan_for : One Rattle.network_plans.specs.contracts.plan_for.ended (λ M 𝓤. Rattle.network_plans.specs.contracts.plan_for.clauses)
 plan_for x r q left over = both x.𝓤 _ _ _ (λ e f. (plan_tells r q (e ∙ sym f), refl))

@@ -7,9 +7,9 @@ use Rattle.one_answer.proofs.General.{both, leaves}
 use Rattle.one_answer.specs.One.{One}
 
 -- pairing::pair
-pub pair : One Rattle.pairing.specs.contracts.pair.ended (λ M. Rattle.pairing.specs.contracts.pair.clauses)
+pub pair : One Rattle.pairing.specs.contracts.pair.ended (λ M 𝓤. Rattle.pairing.specs.contracts.pair.clauses)
 pair x r q left over = both x.𝓤 _ _ _ (λ e f. let same = leaves answered_answer answered_tells _ r q _ _ e f in (same.0, λ i. (tt, (same.1 i, tt))))
 
 -- pairing::pair_row
-pub pair_row : One Rattle.pairing.specs.contracts.pair_row.ended (λ M. Rattle.pairing.specs.contracts.pair_row.clauses)
+pub pair_row : One Rattle.pairing.specs.contracts.pair_row.ended (λ M 𝓤. Rattle.pairing.specs.contracts.pair_row.clauses)
 pair_row x r q left over = both x.𝓤 _ _ _ (λ e f. (pairing_tells r q (e ∙ sym f), refl))

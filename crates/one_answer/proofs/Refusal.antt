@@ -6,9 +6,9 @@ use Rattle.one_answer.proofs.General.{both}
 use Rattle.one_answer.specs.One.{One}
 
 -- refusal::refuse
-pub refuse : One Rattle.refusal.specs.contracts.refuse.ended (λ M. Rattle.refusal.specs.contracts.refuse.clauses)
+pub refuse : One Rattle.refusal.specs.contracts.refuse.ended (λ M 𝓤. Rattle.refusal.specs.contracts.refuse.clauses)
 refuse x r q left over = both x.𝓤 _ _ _ (λ e f. (written_tells r q (e ∙ sym f), refl))
 
 -- refusal::Fault::number
-pub fault_number : One Rattle.refusal.specs.contracts.Fault.number.ended (λ M. Rattle.refusal.specs.contracts.Fault.number.clauses)
+pub fault_number : One Rattle.refusal.specs.contracts.Fault.number.ended (λ M 𝓤. Rattle.refusal.specs.contracts.Fault.number.clauses)
 fault_number x r q left over = both x.𝓤 _ _ _ (λ e f. (e ∙ sym f, refl))

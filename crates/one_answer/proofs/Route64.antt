@@ -6,9 +6,9 @@ use Rattle.one_answer.proofs.General.{both}
 use Rattle.one_answer.specs.One.{One}
 
 -- route64::decode_route64
-pub decode_route64 : One Rattle.route64.specs.contracts.decode_route64.ended (λ M. Rattle.route64.specs.contracts.decode_route64.clauses)
+pub decode_route64 : One Rattle.route64.specs.contracts.decode_route64.ended (λ M 𝓤. Rattle.route64.specs.contracts.decode_route64.clauses)
 decode_route64 x r q left over = both x.𝓤 _ _ _ (λ e f. (route64_tells r q (e ∙ sym f), refl))
 
 -- route64::route64_row
-pub route64_row : One Rattle.route64.specs.contracts.route64_row.ended (λ M. Rattle.route64.specs.contracts.route64_row.clauses)
+pub route64_row : One Rattle.route64.specs.contracts.route64_row.ended (λ M 𝓤. Rattle.route64.specs.contracts.route64_row.clauses)
 route64_row x r q left over = both x.𝓤 _ _ _ (λ e f. (route_row_tells r q (e ∙ sym f), refl))

@@ -7,25 +7,25 @@ use Rattle.one_answer.proofs.General.{both}
 use Rattle.one_answer.specs.One.{One, OneBy}
 
 -- tlv::frame_at
-pub frame_at : One Rattle.tlv.specs.contracts.frame_at.ended (λ M. Rattle.tlv.specs.contracts.frame_at.clauses)
+pub frame_at : One Rattle.tlv.specs.contracts.frame_at.ended (λ M 𝓤. Rattle.tlv.specs.contracts.frame_at.clauses)
 frame_at x r q left over = both x.𝓤 _ _ _ (λ e f. (e ∙ sym f, refl))
 
 -- tlv::parse_one
-pub parse_one : One Rattle.tlv.specs.contracts.parse_one.ended (λ M. Rattle.tlv.specs.contracts.parse_one.clauses)
+pub parse_one : One Rattle.tlv.specs.contracts.parse_one.ended (λ M 𝓤. Rattle.tlv.specs.contracts.parse_one.clauses)
 parse_one x r q left over = both x.𝓤 _ _ _ (λ e f. (parsed_tells r q (e ∙ sym f), refl))
 
 -- tlv::count_entries
-pub count_entries : One Rattle.tlv.specs.contracts.count_entries.ended (λ M. Rattle.tlv.specs.contracts.count_entries.clauses)
+pub count_entries : One Rattle.tlv.specs.contracts.count_entries.ended (λ M 𝓤. Rattle.tlv.specs.contracts.count_entries.clauses)
 count_entries x r q left over = both x.𝓤 _ _ _ (λ e f. (counted_tells r q (e ∙ sym f), refl))
 
 -- tlv::stopped
-pub stopped : One Rattle.tlv.specs.contracts.stopped.ended (λ M. Rattle.tlv.specs.contracts.stopped.clauses)
+pub stopped : One Rattle.tlv.specs.contracts.stopped.ended (λ M 𝓤. Rattle.tlv.specs.contracts.stopped.clauses)
 stopped x r q left over = both x.𝓤 _ _ _ (λ e f. (counted_tells r q (e ∙ sym f), refl))
 
 -- tlv_last::last_entry
-pub last_entry : One Rattle.tlv_last.specs.contracts.last_entry.ended (λ M. Rattle.tlv_last.specs.contracts.last_entry.clauses)
+pub last_entry : One Rattle.tlv_last.specs.contracts.last_entry.ended (λ M 𝓤. Rattle.tlv_last.specs.contracts.last_entry.clauses)
 last_entry x r q left over = both x.𝓤 _ _ _ (λ e f. (found_tells r q (e ∙ sym f), refl))
 
 -- tlv_last::last_value
-pub last_value : OneBy Rattle.tlv_last.specs.contracts.last_value.ended (λ κs r. r.now) (λ M. Rattle.tlv_last.specs.contracts.last_value.clauses)
+pub last_value : OneBy Rattle.tlv_last.specs.contracts.last_value.ended (λ κs r. r.now) (λ M 𝓤. Rattle.tlv_last.specs.contracts.last_value.clauses)
 last_value x r q left over = both x.𝓤 _ _ _ (λ e f. (e ∙ sym f, refl))

@@ -5,9 +5,9 @@ use Rattle.one_answer.proofs.General.{both}
 use Rattle.one_answer.specs.One.{One}
 
 -- utf8::is_utf8
-pub is_utf8 : One Rattle.utf8.specs.contracts.is_utf8.ended (λ M. Rattle.utf8.specs.contracts.is_utf8.clauses)
+pub is_utf8 : One Rattle.utf8.specs.contracts.is_utf8.ended (λ M 𝓤. Rattle.utf8.specs.contracts.is_utf8.clauses)
 is_utf8 x r q left over = both x.𝓤 _ _ _ (λ e f. (e ∙ sym f, refl))
 
 -- utf8::class
-pub class : One Rattle.utf8.specs.contracts.class.ended (λ M. Rattle.utf8.specs.contracts.class.clauses)
+pub class : One Rattle.utf8.specs.contracts.class.ended (λ M 𝓤. Rattle.utf8.specs.contracts.class.clauses)
 class x r q left over = both x.𝓤 _ _ _ (λ e f. (e ∙ sym f, refl))

@@ -32,7 +32,7 @@ pub record Call (T : Ended) (c : Contract T) : Type 2 where
 module _ (T : Ended) where
   -- what c promises at the call x of the result r, where `left` is what is left in each thing that was lent to be written
   abbrev pub Promise : (c : Contract T) (x : Call T c) → Res T.signature x.κs → Lasts T x.κs x.passed → SProp x.𝓤
-  Promise c x r left = (c x.M x.𝓤 x x.mem x.run x.κs x.passed).ensures x.ghost r (at_exit T x.κs x.passed left)
+  Promise c x r left = (c x.M x.𝓤 x.𝓛 x.mem x.run x.κs x.passed).ensures x.ghost r (at_exit T x.κs x.passed left)
 
   -- where r and `left` keep the promise, and q and `over` keep it too, what is seen of r is what is seen of q, and `left` is `over`
   abbrev pub OneBy : {A : Lfts T.signature.lifetimes → Type 0} → ((κs : Lfts T.signature.lifetimes) → Res T.signature κs → A κs) → Contract T → Type 2

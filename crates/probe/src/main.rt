@@ -1,6 +1,8 @@
 // Makes the public calls of the library reachable: requests on standard input, one answer line each. Its stored answers are the Rust's.
 #![tactic(auto)]
 
-fn main() {
-    harness::serve();
+use std::io;
+
+fn main(rt: HostRuntime) -> io::Result<()> {
+    harness::serve(rt)
 }

@@ -5,7 +5,6 @@ use Rattle.tlv_last.specs.Answers.{found_answer}
 use Rattle.diag_entries.specs.Lists.{child_list}
 use Rattle.diag_entries.proofs.Checks.{checked_given, checked_refused}
 use Rattle.child_lists.proofs.Lists.{child_found, child_none}
-use borrow.Author.Rules.{rules}
 use borrow.Enum.Refused.{opened}
 use Rattle.child_lists.proofs.child_list.Goals as goal
 

@@ -4,7 +4,6 @@ use native.Mathlib.Omega.{arith}
 use native.Mathlib.Nat.{add-sub_cancel_left}
 use Rattle.diag_rows.specs.Answers.{address_list_answer}
 use Rattle.child_lists.proofs.Lists.{list_read, list_starts, list_other, list_refused}
-use borrow.Author.Rules.{rules}
 use Rattle.child_lists.proofs.list_at.Goals as goal
 
 pub overflow_add-result : goal.overflow_add-result

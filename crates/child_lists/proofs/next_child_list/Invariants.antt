@@ -1,17 +1,11 @@
 -- `child_lists::next_child_list` meets its contract. The invariant: the first entry of type 30 from the place at on is the answer. The measure is what
 -- is left of the payload.
-use mathlib.Core.Path.{◌≡◌, sym, ap, ◌∙◌}
+use mathlib.Core.Path.{◌≡◌}
 use Prim.Native.Nat.{◌-◌}
-use native.Mathlib.Omega.{arith}
 use lib.ListN.{length}
-use borrow.Author.Rules.{rules}
-use Rattle.refusal.specs.Answer.{on_given}
-use Rattle.tlv_last.specs.Last.{spot}
-use Rattle.tlv.proofs.Walks.{from, turn_entries, turn_none, turn_inside}
-use Rattle.refusal.specs.Numbered.{nth}
+use Rattle.tlv.proofs.Walks.{from}
 use Rattle.diag_entries.specs.Parts.{all_of}
 use Rattle.child_lists.specs.From.{entries_from}
-use Rattle.child_lists.proofs.Lists.{from_there, next_here, next_past, next_none}
 use Rattle.child_lists.proofs.next_child_list.Given as goal
 
 abbrev pub invariant-loop-ty : goal.invariant-loop-ty

@@ -1,19 +1,12 @@
 -- `child_lists::nth_child_list` meets its contract. The invariant: of the entries of type 30 from the place at on, the one that is `left` further on is the
 -- answer. The measure is what is left of the payload.
-use mathlib.Core.Path.{◌≡◌, sym, ap, ◌∙◌}
+use mathlib.Core.Path.{◌≡◌}
 use Prim.Native.Nat.{◌-◌, ◌≤◌}
-use native.Mathlib.Omega.{arith}
 use lib.ListN.{length}
-use borrow.Author.Rules.{rules}
-use Rattle.refusal.specs.Answer.{on_given}
-use Rattle.tlv.specs.Entries.{Framing, framing}
-use Rattle.tlv_last.specs.Last.{spot}
-use Rattle.tlv_last.specs.Answers.{found_answer}
-use Rattle.tlv.proofs.Walks.{from, from_start}
+use Rattle.tlv.specs.Entries.{framing}
+use Rattle.tlv.proofs.Walks.{from}
 use Rattle.refusal.specs.Numbered.{nth}
-use Rattle.laws.proofs.Numbered.{nth_empty}
 use Rattle.diag_entries.specs.Parts.{all_of}
-use Rattle.child_lists.proofs.Lists.{follows, none_left, nth_here, nth_past}
 use Rattle.child_lists.proofs.nth_child_list.Given as goal
 
 abbrev pub invariant-loop-place : goal.invariant-loop-place

@@ -9,7 +9,6 @@ use Rattle.diag.specs.Diag.{byte_of}
 use Rattle.diag.specs.Loops.{read_at, network_at, part_of}
 use Rattle.diag.proofs.Fields.{read_15}
 use Rattle.diag.proofs.Whole.{last_inside, made}
-use borrow.Author.Rules.{rules}
 use Rattle.diag.proofs.collect.Goals as goal
 
 pub u16_in-requires : goal.u16_in-requires

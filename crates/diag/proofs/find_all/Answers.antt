@@ -1,13 +1,11 @@
 -- `diag::find_all` meets its contract. The invariant: what is noted and the entries from the place at on give the last entry of each type and
 -- their number. The measure is what is left of the payload.
 use mathlib.Core.Path.{ap}
-use Prim.Native.Nat.{◌-◌, ◌≤◌}
 use native.Mathlib.Omega.{arith}
-use lib.ListN.{length}
 use borrow.Author.Rules.{rules}
 use Rattle.tlv.specs.Entries.{Framing}
-use Rattle.tlv.proofs.Walks.{from, from_start, turn_entries, turn_none, turn_inside}
-use Rattle.diag.proofs.Finds.{Finding, find_start, find_more, find_skip, find_end}
+use Rattle.tlv.proofs.Walks.{from_start, turn_entries, turn_none, turn_inside}
+use Rattle.diag.proofs.Finds.{find_start, find_more, find_skip, find_end}
 use borrow.Enum.Refused.{opened}
 use Rattle.diag.proofs.find_all.Goals as goal
 

@@ -5,7 +5,6 @@ use native.Mathlib.Nat.{add-sub_cancel_left}
 use Rattle.tlv_last.specs.Answers.{found_answer}
 use Rattle.network_data.specs.Answers.{checked_answer}
 use Rattle.diag.proofs.Fields.{in_payload, network_counted, network_refused, network_none}
-use borrow.Author.Rules.{rules}
 use borrow.Enum.Refused.{opened}
 use Rattle.diag.proofs.network_data_in.Goals as goal
 

@@ -1,7 +1,6 @@
 -- `diag::part_at` meets its contract.
 use borrow.Author.Tests.{eq-eqb, ne_eqb}
 use Rattle.diag.specs.Loops.{spot_in}
-use borrow.Author.Rules.{rules}
 use Rattle.diag.proofs.part_at.Goals as goal
 
 pub returns-then-p-t-eq0 : goal.returns-then-p-t-eq0

@@ -7,7 +7,6 @@ use Rattle.wire.specs.Be.{answer16}
 use Rattle.diag.specs.Loops.{or_none}
 use Rattle.diag_values.proofs.Agree.{mac_address_read}
 use Rattle.diag.proofs.Fields.{in_payload, read_by, read_none, none_16}
-use borrow.Author.Rules.{rules}
 use borrow.Enum.Refused.{opened}
 use Rattle.diag.proofs.u16_in.Goals as goal
 

@@ -7,7 +7,6 @@ use Rattle.wire.specs.Be.{answer32}
 use Rattle.diag.specs.Loops.{or_none}
 use Rattle.diag_values.proofs.Agree.{timeout_read}
 use Rattle.diag.proofs.Fields.{in_payload, read_by, read_none, none_32}
-use borrow.Author.Rules.{rules}
 use borrow.Enum.Refused.{opened}
 use Rattle.diag.proofs.u32_in.Goals as goal
 

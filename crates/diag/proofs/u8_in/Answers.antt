@@ -6,7 +6,6 @@ use Rattle.tlv_last.specs.Answers.{found_answer}
 use Rattle.diag_values.specs.Answers.{answer8}
 use Rattle.diag.specs.Loops.{or_none}
 use Rattle.diag.proofs.Fields.{in_payload, read_by, read_none, none_8}
-use borrow.Author.Rules.{rules}
 use borrow.Enum.Refused.{opened}
 use Rattle.diag.proofs.u8_in.Goals as goal
 

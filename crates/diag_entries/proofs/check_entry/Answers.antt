@@ -4,7 +4,6 @@ use Rattle.refusal.specs.Answer.{on_given}
 use Rattle.network_data.specs.Answers.{checked_answer}
 use Rattle.diag_rules.specs.Answers.{judged}
 use Rattle.diag_entries.proofs.Checks.{network_judged, entry_other}
-use borrow.Author.Rules.{rules}
 use Rattle.diag_entries.proofs.check_entry.Goals as goal
 
 pub returns-in-Counted : goal.returns-in-Counted

@@ -1,5 +1,4 @@
 -- `listing::line_end` meets its contract, by whether the input ends in a newline.
-use borrow.Author.Rules.{rules}
 use Rattle.listing.proofs.Reports.{line_none, line_dropped, line_whole}
 use Rattle.listing.proofs.line_end.Goals as goal
 

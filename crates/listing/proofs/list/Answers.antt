@@ -1,15 +1,8 @@
 -- `listing::list` meets its contract: the count's refusal, 11 by the size that the text takes in no room, or the text.
-use mathlib.Core.Path.{◌≡◌, sym, ap, ◌∙◌}
 use native.Mathlib.Omega.{arith}
-use borrow.Author.Rules.{rules}
-use Rattle.refusal.specs.Answer.{given}
 use Rattle.laws.proofs.Emits.{emit_refused}
-use Rattle.tlv.specs.Entries.{framing}
-use Rattle.tlv.specs.Limits.{count}
-use Rattle.tlv.specs.Answers.{counted_answer}
 use Rattle.tlv.proofs.Tally.{counted_number}
 use Rattle.text_writing.proofs.Lays.{lays_no_room, lays_done}
-use Rattle.listing.specs.Listing.{listing, listed}
 use Rattle.listing.proofs.Counts.{listed_given, listed_refused}
 use Rattle.listing.proofs.list.Goals as goal
 

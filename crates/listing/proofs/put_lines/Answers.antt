@@ -1,13 +1,9 @@
 -- `listing::put_lines` meets its contract. The invariant: the lines from pos on, laid from next on, make of out what all the lines make of it.
-use mathlib.Core.Path.{◌≡◌, refl, ap, ◌∙◌}
-use Prim.Native.Nat.{◌-◌, ◌≤◌}
+use mathlib.Core.Path.{refl, ap, ◌∙◌}
 use native.Mathlib.Omega.{arith}
-use lib.ListN.{length}
-use Rattle.tlv.specs.Entries.{framing}
-use Rattle.tlv.proofs.Walks.{from, turn_inside}
+use Rattle.tlv.proofs.Walks.{turn_inside}
 use Rattle.text_writing.specs.Laid.{laid}
 use Rattle.text_writing.proofs.Lays.{laid_none, laid_rest, laid_length}
-use Rattle.listing.specs.Listing.{entry_lines}
 use Rattle.listing.proofs.Lines.{lines_start, lines_turn, lines_end, no_entry}
 use borrow.Author.Rules.{rules}
 use Rattle.listing.proofs.put_lines.Goals as goal

@@ -1,6 +1,5 @@
 -- `listing::put_listing` meets its contract: the word, the count, a newline, the lines.
 use mathlib.Core.Path.{◌∙◌}
-use borrow.Author.Rules.{rules}
 use Rattle.text_writing.proofs.Lays.{laid_rest}
 use Rattle.listing.specs.Listing.{first_line, listing}
 use Rattle.listing.proofs.put_listing.Goals as goal

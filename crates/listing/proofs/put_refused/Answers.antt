@@ -2,7 +2,6 @@
 use mathlib.Core.Path.{◌∙◌}
 use Rattle.listing.specs.Listing.{refused_line}
 use Rattle.text_writing.proofs.Lays.{laid_rest}
-use borrow.Author.Rules.{rules}
 use Rattle.listing.proofs.put_refused.Goals as goal
 
 pub returns : goal.returns

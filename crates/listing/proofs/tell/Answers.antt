@@ -1,6 +1,5 @@
 -- `listing::tell` meets its contract: what is given, and 11, as they are; the line of any other refusal.
 use mathlib.Core.Path.{sym, ◌∙◌}
-use borrow.Author.Rules.{rules}
 use Rattle.listing.proofs.Tells.{telling_given, telling_eleven, telling_other}
 use Rattle.listing.proofs.tell.Goals as goal
 

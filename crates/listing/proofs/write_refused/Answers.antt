@@ -2,7 +2,6 @@
 use mathlib.Core.Path.{refl}
 use native.Mathlib.Omega.{arith}
 use Rattle.text_writing.proofs.Lays.{lays_no_room, lays_done}
-use borrow.Author.Rules.{rules}
 use Rattle.listing.proofs.write_refused.Goals as goal
 
 pub returns-then-need-out : goal.returns-then-need-out

@@ -3,7 +3,6 @@ use mathlib.Core.Path.{sym, ap, ◌∙◌}
 use native.Mathlib.Omega.{arith}
 use Rattle.network_framing.specs.Frame.{head_answer}
 use Rattle.nested_listing.proofs.Turns.{held_network, held_other, held_prefix, held_tlv, held_last, third_list, prefix_list, prefix_none}
-use borrow.Author.Rules.{rules}
 use Rattle.nested_listing.proofs.holds.Goals as goal
 
 pub returns-then-ty-eq7 : goal.returns-then-ty-eq7

@@ -2,7 +2,6 @@
 use mathlib.Core.Path.{sym, ap, ◌∙◌}
 use Rattle.nested_listing.specs.Levels.{as_entry, as_tlv}
 use Rattle.nested_listing.proofs.Turns.{item_first, item_below, not_cut}
-use borrow.Author.Rules.{rules}
 use Rattle.nested_listing.proofs.item_at.Goals as goal
 
 pub returns-in_default : goal.returns-in_default

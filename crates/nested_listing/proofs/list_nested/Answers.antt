@@ -1,13 +1,7 @@
 -- `nested_listing::list_nested` meets its contract: the count's refusal, 11 by the size that the lines take in no room, or the lines.
-use mathlib.Core.Path.{◌≡◌, sym, ap, ◌∙◌}
 use native.Mathlib.Omega.{arith}
-use borrow.Author.Rules.{rules}
-use Rattle.refusal.specs.Answer.{given}
 use Rattle.laws.proofs.Emits.{emit_refused}
-use Rattle.tlv.specs.Answers.{counted_answer}
 use Rattle.text_writing.proofs.Lays.{lays_no_room, lays_done}
-use Rattle.nested_listing.specs.Nested.{nested}
-use Rattle.nested_listing.specs.Levels.{list_text}
 use Rattle.nested_listing.proofs.Turns.{nested_given, nested_refused}
 use Rattle.nested_listing.proofs.list_nested.Goals as goal
 

@@ -2,7 +2,6 @@
 use mathlib.Core.Path.{◌∙◌}
 use Rattle.text_writing.proofs.Lays.{laid_rest}
 use Rattle.nested_listing.specs.Tree.{cut_line}
-use borrow.Author.Rules.{rules}
 use Rattle.nested_listing.proofs.put_cut_line.Goals as goal
 
 pub returns : goal.returns

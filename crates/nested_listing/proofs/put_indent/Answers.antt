@@ -2,7 +2,6 @@
 use mathlib.Core.Path.{ap, ◌∙◌}
 use Rattle.text_writing.specs.Laid.{laid}
 use Rattle.nested_listing.proofs.Turns.{blanks}
-use borrow.Author.Rules.{rules}
 use Rattle.nested_listing.proofs.put_indent.Goals as goal
 
 pub returns : goal.returns

@@ -3,7 +3,6 @@ use mathlib.Core.Path.{ap, ◌∙◌}
 use mathlib.Core.List.{List}
 use Prim.Native.Nat.{ℕ}
 use native.Mathlib.Omega.{arith}
-use borrow.Author.Rules.{rules}
 use Rattle.refusal.specs.Output.{emit}
 use Rattle.listing.specs.Listing.{report_by}
 use Rattle.listing.proofs.Reports.{line_start, line_part}

@@ -1,5 +1,4 @@
 -- `network_bridge::decode` meets its contract: the counts that it lends are those of the definition. Assumes nothing.
-use borrow.Author.Rules.{rules}
 use Rattle.network_bridge.proofs.decode.Goals as goal
 
 pub returns : goal.returns

@@ -1,6 +1,5 @@
 -- `network_tables::border_router_at` meets its contract: the check, and then the row where there are so many. Assumes nothing.
 use mathlib.Core.Path.{sym, ap, ◌∙◌}
-use borrow.Author.Rules.{rules}
 use Rattle.refusal.specs.Answer.{given}
 use Rattle.network_data.specs.Answers.{checked_answer}
 use Rattle.network_tables.proofs.Numbers.{borders_to, border_given, border_past, border_refused}

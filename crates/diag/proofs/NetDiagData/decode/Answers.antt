@@ -2,7 +2,6 @@
 use mathlib.Core.Path.{sym, ap, ◌∙◌}
 use Rattle.refusal.specs.Answer.{given, on_given}
 use Rattle.tlv.specs.Answers.{counted_answer}
-use borrow.Author.Rules.{rules}
 use Rattle.diag.specs.Diag.{diag, decode}
 use Rattle.diag_entries.proofs.Checks.{checked_given, checked_refused}
 use Rattle.diag.proofs.Whole.{collected_is}

@@ -1,9 +1,8 @@
 -- `diag_writing::checks::pass_child` meets its contract.
-use borrow.Author.Tests.{not-true, not-false}
 use Rattle.diag_writing.proofs.checks.pass_child.Goals as goal
 
 pub returns-then-not-ok : goal.returns-then-not-ok
-returns-then-not-ok c = rw (not-true c.args.ok c.if-not-ok.true-raw)
+returns-then-not-ok c = rw (c.if-not-ok.true)
 
 pub returns : goal.returns
-returns c = rw (not-false c.args.ok c.if-not-ok.false-raw) c.child_fits.ensures
+returns c = rw (c.if-not-ok.false) c.child_fits.ensures

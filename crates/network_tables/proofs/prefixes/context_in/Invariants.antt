@@ -1,15 +1,11 @@
 -- `network_tables::prefixes::context_in` meets its contract. The invariant: the last context from the place at on, or x, is the last context.
 -- The measure is what is left of the prefix. Assumes nothing.
-use borrow.Author.Rules.{rules}
-use mathlib.Core.Path.{◌≡◌, refl, sym, ap, ◌∙◌}
+use mathlib.Core.Path.{◌≡◌}
 use Prim.Native.Nat.{◌-◌}
-use native.Mathlib.Omega.{arith}
 use Rattle.network_framing.specs.Frame.{walk_in}
-use Rattle.network_framing.proofs.Walks.{turn_items, turn_none, turn_inside}
 use Rattle.refusal.specs.Answer.{absent}
 use Rattle.network_data.specs.Decode.{last_context}
 use Rattle.network_tables.specs.Answers.{context_answer}
-use Rattle.network_tables.proofs.Seeks.{context_none, context_hit, context_odd, context_miss}
 use Rattle.network_tables.proofs.prefixes.context_in.Given as goal
 
 abbrev pub invariant-loop-ty : goal.invariant-loop-ty

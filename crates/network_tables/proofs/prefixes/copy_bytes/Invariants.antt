@@ -1,11 +1,8 @@
 -- `network_tables::prefixes::copy_bytes` meets its contract. The invariant: i bytes are copied, and zeros follow. Assumes nothing.
-use borrow.Author.Rules.{rules}
-use mathlib.Core.Path.{◌≡◌, refl, ap, ◌∙◌}
+use mathlib.Core.Path.{◌≡◌}
 use mathlib.Core.List.{◌++◌}
-use Prim.Native.Nat.{ℕ, ◌+◌, ◌-◌, ◌≤◌}
-use native.Mathlib.Omega.{arith}
-use lib.ListN.{length, take, drop, replicate, length-set}
-use Rattle.network_tables.proofs.Seeks.{pad_more, pad_all}
+use Prim.Native.Nat.{◌-◌, ◌≤◌}
+use lib.ListN.{length, take, drop, replicate}
 use Rattle.network_tables.proofs.prefixes.copy_bytes.Given as goal
 
 abbrev pub invariant-loop-i : goal.invariant-loop-i

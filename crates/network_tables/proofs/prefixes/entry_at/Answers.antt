@@ -1,5 +1,4 @@
 -- `network_tables::prefixes::entry_at` meets its contract: the record is made field by field. Assumes nothing.
-use borrow.Author.Rules.{rules}
 use native.Mathlib.Omega.{arith}
 use Prim.Native.Nat.{◌+◌}
 use Rattle.network_tables.proofs.Seeks.{entry_is}

@@ -1,11 +1,7 @@
 -- `network_tables::prefixes::find_prefix` meets its contract. The invariant: the first prefix from the place at on is the first prefix.
 -- The measure is what is left of the value. Assumes nothing.
-use borrow.Author.Rules.{rules}
-use mathlib.Core.Path.{◌≡◌, refl, sym, ap, ◌∙◌}
-use Prim.Native.Nat.{◌-◌}
+use mathlib.Core.Path.{refl, sym, ap, ◌∙◌}
 use native.Mathlib.Omega.{arith}
-use lib.ListN.{length}
-use Rattle.network_framing.specs.Frame.{walk_in}
 use Rattle.network_framing.proofs.Walks.{turn_items, turn_none, turn_inside}
 use Rattle.network_tables.specs.Cursor.{span_of}
 use Rattle.network_tables.proofs.Seeks.{span_none, span_hit, span_miss}

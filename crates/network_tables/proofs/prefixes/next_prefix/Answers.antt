@@ -1,5 +1,4 @@
 -- `network_tables::prefixes::next_prefix` meets its contract. Assumes nothing.
-use borrow.Author.Rules.{rules}
 use mathlib.Core.Path.{ap}
 use Rattle.network_tables.specs.declared.prefixes.Span.{Span}
 use Rattle.network_tables.proofs.prefixes.next_prefix.Goals as goal

@@ -1,6 +1,5 @@
 -- `network_tables::prefixes::prefix_number` meets its contract. The invariant: the cursor has made k steps. Assumes nothing.
-use mathlib.Core.Path.{◌≡◌, sym, ap, ◌∙◌, subst}
-use Prim.Native.Nat.{◌-◌, ◌≤◌}
+use mathlib.Core.Path.{sym, ap, ◌∙◌, subst}
 use native.Mathlib.Nat.{le_antisymm}
 use borrow.Author.Rules.{rules}
 use Rattle.tables.specs.Tab.{steps, steps_none, steps_more}

@@ -1,10 +1,8 @@
 -- `network_tables::prefixes::prefix_number` meets its contract. The invariant: the cursor has made k steps. Assumes nothing.
-use mathlib.Core.Path.{◌≡◌, sym, ap, ◌∙◌, subst}
+use mathlib.Core.Path.{◌≡◌}
 use Prim.Native.Nat.{◌-◌, ◌≤◌}
-use native.Mathlib.Nat.{le_antisymm}
-use borrow.Author.Rules.{rules}
-use Rattle.tables.specs.Tab.{steps, steps_none, steps_more}
-use Rattle.network_tables.specs.Cursor.{SpanHere, entry_at, span_end}
+use Rattle.tables.specs.Tab.{steps}
+use Rattle.network_tables.specs.Cursor.{span_end}
 use Rattle.network_tables.proofs.prefixes.prefix_number.Given as goal
 
 abbrev pub invariant-loop-k : goal.invariant-loop-k

@@ -1,5 +1,4 @@
 -- `network_tables::prefixes::prefix_row` meets its contract. Assumes nothing.
-use borrow.Author.Rules.{rules}
 use mathlib.Core.Path.{sym, ap, ◌∙◌, subst}
 use Rattle.network_tables.specs.declared.prefixes.Span.{Span}
 use Rattle.network_data.specs.Decode.{entry_of, prefix_at}

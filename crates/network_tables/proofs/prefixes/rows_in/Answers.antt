@@ -1,12 +1,10 @@
 -- `network_tables::prefixes::rows_in` meets its contract. The invariant: the rows counted and those from the place at on are all rows.
 -- The measure is what is left of the prefix. Assumes nothing.
 use borrow.Author.Rules.{rules}
-use mathlib.Core.Path.{◌≡◌, ap, ◌∙◌}
-use Prim.Native.Nat.{◌+◌, ◌-◌, ◌≤◌}
+use mathlib.Core.Path.{ap, ◌∙◌}
 use native.Mathlib.Omega.{arith}
 use lib.ListN.{length}
 use Rattle.network_framing.specs.Tlvs.{Piece}
-use Rattle.network_framing.specs.Frame.{walk_in}
 use Rattle.network_framing.proofs.Walks.{turn_items, turn_none, turn_inside}
 use native.Mathlib.Nat.{div-le_self, zero-add}
 use Rattle.network_data.specs.Decode.{places_in}

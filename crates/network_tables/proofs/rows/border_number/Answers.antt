@@ -1,7 +1,6 @@
 -- `network_tables::rows::border_number` meets its contract. Assumes nothing.
 use mathlib.Core.Path.{sym, ap, ◌∙◌, subst}
 use native.Mathlib.Omega.{arith}
-use borrow.Author.Rules.{rules}
 use Rattle.network_tables.specs.Cursor.{RowHere, border_of}
 use Rattle.network_tables.proofs.rows.border_number.Goals as goal
 

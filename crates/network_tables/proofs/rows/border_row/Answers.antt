@@ -1,5 +1,4 @@
 -- `network_tables::rows::border_row` meets its contract. Assumes nothing.
-use borrow.Author.Rules.{rules}
 use native.Mathlib.Omega.{arith}
 use Prim.Native.Nat.{◌+◌}
 use Rattle.network_tables.proofs.rows.border_row.Goals as goal

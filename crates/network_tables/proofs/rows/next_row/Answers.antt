@@ -1,5 +1,4 @@
 -- `network_tables::rows::next_row` meets its contract: in the same TLV, else in the same prefix, else in a later one. Assumes nothing.
-use borrow.Author.Rules.{rules}
 use borrow.Author.Tests.{lt-ltb}
 use Rattle.network_tables.specs.Cursor.{next_row}
 use Rattle.network_tables.proofs.Seeks.{next_same, next_later}

@@ -1,10 +1,8 @@
 -- `network_tables::rows::row_number` meets its contract. The invariant: the cursor has made k steps. Assumes nothing.
-use mathlib.Core.Path.{◌≡◌, sym, ap, ◌∙◌, subst}
+use mathlib.Core.Path.{◌≡◌}
 use Prim.Native.Nat.{◌-◌, ◌≤◌}
-use native.Mathlib.Nat.{le_antisymm}
-use borrow.Author.Rules.{rules}
-use Rattle.tables.specs.Tab.{steps, steps_none, steps_more}
-use Rattle.network_tables.specs.Cursor.{RowHere, first_row, next_row}
+use Rattle.tables.specs.Tab.{steps}
+use Rattle.network_tables.specs.Cursor.{first_row, next_row}
 use Rattle.network_tables.proofs.rows.row_number.Given as goal
 
 abbrev pub invariant-loop-k : goal.invariant-loop-k

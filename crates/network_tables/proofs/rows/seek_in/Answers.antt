@@ -1,10 +1,7 @@
 -- `network_tables::rows::seek_in` meets its contract. The invariant: the first row from the place at on is the first row.
 -- The measure is what is left of the prefix. Assumes nothing.
-use borrow.Author.Rules.{rules}
-use mathlib.Core.Path.{◌≡◌, refl, sym, ap, ◌∙◌}
-use Prim.Native.Nat.{◌-◌}
+use mathlib.Core.Path.{refl, sym, ap, ◌∙◌}
 use native.Mathlib.Omega.{arith}
-use Rattle.network_framing.specs.Frame.{walk_in}
 use Rattle.network_framing.proofs.Walks.{turn_items, turn_none, turn_inside}
 use Rattle.network_tables.specs.Cursor.{rows_in}
 use Rattle.network_tables.proofs.Seeks.{in_empty, in_miss, in_hit, in_none}

@@ -1,11 +1,8 @@
 -- `network_tables::rows::seek_out` meets its contract. The invariant: the first row from the place at on is the first row.
 -- The measure is what is left of the value. Assumes nothing.
 use borrow.Author.Rules.{rules}
-use mathlib.Core.Path.{◌≡◌, refl, sym, ap, ◌∙◌}
-use Prim.Native.Nat.{◌-◌}
+use mathlib.Core.Path.{refl, sym, ap, ◌∙◌}
 use native.Mathlib.Omega.{arith}
-use lib.ListN.{length}
-use Rattle.network_framing.specs.Frame.{walk_in}
 use Rattle.network_framing.proofs.Walks.{turn_items, turn_none, turn_inside}
 use Rattle.network_tables.specs.Cursor.{rows_out}
 use Rattle.network_tables.proofs.Seeks.{out_empty, seek_miss, seek_hit, seek_none}

@@ -1,5 +1,4 @@
 -- `network_tables::rows::seek_prefix` meets its contract. Assumes nothing.
-use borrow.Author.Rules.{rules}
 use mathlib.Core.Path.{sym, ap, ◌∙◌}
 use Rattle.network_framing.specs.Frame.{head_answer}
 use Rattle.network_data.specs.Decode.{inner, head_items}

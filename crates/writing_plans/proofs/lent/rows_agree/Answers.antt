@@ -33,9 +33,9 @@ returns-then-p-c-2 c =
 pub returns-then-not-h : goal.returns-then-not-h
 unfolding tables_by
 returns-then-not-h c =
-    rw (le-leb _ _ c.if-c-u.false, le-leb _ _ c.if-c-u-2.false, le-leb _ _ c.if-c-u-3.false, not-false c.args.p.fits c.if-not-p.false, eq-eqb _ _ c.if-p-c.false, eq-eqb _ _ c.if-p-c-2.false, not-true c.args.h c.if-not-h.true-raw)
+    rw (le-leb _ _ c.if-c-u.false, le-leb _ _ c.if-c-u-2.false, le-leb _ _ c.if-c-u-3.false, not-false c.args.p.fits c.if-not-p.false, eq-eqb _ _ c.if-p-c.false, eq-eqb _ _ c.if-p-c-2.false, c.if-not-h.true)
 
 pub returns : goal.returns
 unfolding tables_by
 returns c =
-    rw (le-leb _ _ c.if-c-u.false, le-leb _ _ c.if-c-u-2.false, le-leb _ _ c.if-c-u-3.false, not-false c.args.p.fits c.if-not-p.false, eq-eqb _ _ c.if-p-c.false, eq-eqb _ _ c.if-p-c-2.false, not-false c.args.h c.if-not-h.false-raw)
+    rw (le-leb _ _ c.if-c-u.false, le-leb _ _ c.if-c-u-2.false, le-leb _ _ c.if-c-u-3.false, not-false c.args.p.fits c.if-not-p.false, eq-eqb _ _ c.if-p-c.false, eq-eqb _ _ c.if-p-c-2.false, c.if-not-h.false)
