@@ -1,7 +1,6 @@
 -- `changes::as_count` meets its contract.
 use mathlib.Core.Path.{sym, ap}
 use Rattle.change_lists.specs.Answers.{counted_ops_answer}
-use borrow.Author.Rules.{rules}
 use Rattle.changes.proofs.as_count.Goals as goal
 
 pub returns-in-Operations : goal.returns-in-Operations

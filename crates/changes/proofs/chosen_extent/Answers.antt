@@ -1,8 +1,7 @@
 -- `changes::chosen_extent` meets its contract. The invariant: what is counted, and what the sets from at on take, is what all take.
 -- The measure is what is left of the list.
-use mathlib.Core.Path.{◌≡◌, ap, ◌∙◌}
+use mathlib.Core.Path.{ap, ◌∙◌}
 use mathlib.Core.List.{List}
-use Prim.Native.Nat.{◌+◌, ◌-◌, ◌≤◌}
 use native.Mathlib.Omega.{arith}
 use native.Mathlib.Nat.{zero-add}
 use lib.ListN.{length}

@@ -1,11 +1,8 @@
 -- `changes::count_removals` meets its contract. The invariant: n is the number of removals of the types below t.
-use mathlib.Core.Path.{◌≡◌, sym, ap, ◌∙◌}
+use mathlib.Core.Path.{◌≡◌}
 use Prim.Native.Nat.{◌-◌, ◌≤◌}
-use native.Mathlib.Omega.{arith}
 use lib.ListN.{length}
-use borrow.Author.Rules.{rules}
 use Rattle.changes.specs.Loops.{gone_below}
-use Rattle.changes.proofs.Removals.{gone_none, gone_count, gone_skip}
 use Rattle.changes.proofs.count_removals.Given as goal
 
 abbrev pub invariant-loop-t : goal.invariant-loop-t

@@ -1,5 +1,4 @@
 -- `changes::first_fault` meets its contract.
-use borrow.Author.Rules.{rules}
 use Rattle.changes.proofs.first_fault.Goals as goal
 
 pub returns-in-Refused : goal.returns-in-Refused

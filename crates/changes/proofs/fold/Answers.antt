@@ -1,5 +1,4 @@
 -- `changes::fold` meets its contract.
-use borrow.Author.Rules.{rules}
 use Rattle.changes.proofs.Results.{fold_emits}
 use Rattle.changes.proofs.fold.Goals as goal
 

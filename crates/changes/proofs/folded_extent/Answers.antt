@@ -1,5 +1,4 @@
 -- `changes::folded_extent` meets its contract.
-use borrow.Author.Rules.{rules}
 use Rattle.changes.proofs.Results.{extent_made}
 use Rattle.changes.proofs.folded_extent.Goals as goal
 

@@ -1,7 +1,6 @@
 -- `changes::put_chosen` meets its contract. The invariant: what is left to write, stored from here on, makes of out what all the sets make
 -- of it. The measure is what is left of the list.
-use mathlib.Core.Path.{◌≡◌, refl, sym, ap, ◌∙◌}
-use Prim.Native.Nat.{◌+◌, ◌-◌, ◌≤◌}
+use mathlib.Core.Path.{refl, sym, ap, ◌∙◌}
 use native.Mathlib.Omega.{arith}
 use native.Mathlib.Nat.{add-sub_cancel_left}
 use lib.ListN.{length}
@@ -11,7 +10,7 @@ use Rattle.laws.proofs.Parts.{length_part}
 use Rattle.laws.proofs.Puts.{put_none, put_then}
 use Rattle.changes.specs.Loops.{encode_sets}
 use Rattle.change_lists.proofs.Places.{turn_none, set_within, removal_inside, set_ops, removal_ops}
-use Rattle.changes.proofs.Turns.{chosen_from, chosen_start, chosen_end, chosen_set, chosen_not, chosen_removal}
+use Rattle.changes.proofs.Turns.{chosen_start, chosen_end, chosen_set, chosen_not, chosen_removal}
 use Rattle.changes.proofs.Writes.{sets_none, sets_more, sets_length_more}
 use Rattle.changes.proofs.put_chosen.Goals as goal
 

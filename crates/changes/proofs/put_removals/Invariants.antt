@@ -1,14 +1,10 @@
 -- `changes::put_removals` meets its contract. The invariant: the removals of the types below t are stored.
-use mathlib.Core.Path.{◌≡◌, refl, sym, ap, ◌∙◌}
-use Prim.Native.Nat.{◌+◌, ◌*◌, ◌-◌, ◌≤◌}
-use native.Mathlib.Omega.{arith}
-use lib.ListN.{length, length-set}
-use borrow.Author.Rules.{rules}
+use mathlib.Core.Path.{◌≡◌}
+use Prim.Native.Nat.{◌*◌, ◌-◌, ◌≤◌}
+use lib.ListN.{length}
 use Rattle.refusal.specs.Output.{put}
-use Rattle.laws.proofs.Puts.{put_none}
 use Rattle.change_lists.specs.Operations.{encode_ops}
 use Rattle.changes.specs.Loops.{gone_below}
-use Rattle.changes.proofs.Removals.{gone_start, gone_count, gone_skip, gone_bytes, gone_stored, gone_grows}
 use Rattle.changes.proofs.put_removals.Given as goal
 
 abbrev pub invariant-loop-t : goal.invariant-loop-t

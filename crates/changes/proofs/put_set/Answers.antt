@@ -2,7 +2,6 @@
 use mathlib.Core.Path.{◌∙◌}
 use native.Mathlib.Omega.{arith}
 use lib.ListN.{length-set}
-use borrow.Author.Rules.{rules}
 use Rattle.laws.proofs.Emits.{placed_next, placed_left}
 use Rattle.tlv.specs.Entries.{content}
 use Rattle.tlv_writing.proofs.Encodes.{entry_placed}

@@ -1,7 +1,6 @@
 -- `changes::put_spared` meets its contract. The invariant: what is left to write, stored from here on, makes of out what all the entries
 -- make of it. The measure is what is left of the dataset.
-use mathlib.Core.Path.{◌≡◌, refl, sym, ap, ◌∙◌}
-use Prim.Native.Nat.{◌+◌, ◌-◌, ◌≤◌}
+use mathlib.Core.Path.{refl, sym, ap, ◌∙◌}
 use native.Mathlib.Omega.{arith}
 use native.Mathlib.Nat.{zero-add, add-sub_cancel_left}
 use lib.ListN.{length}
@@ -14,7 +13,7 @@ use Rattle.tlv_writing.specs.Encode.{encode_all}
 use Rattle.tlv.proofs.Walks.{turn_entries, turn_none, turn_inside}
 use Rattle.tlv_writing.proofs.Encodes.{entry_placed}
 use Rattle.tlv_writing.proofs.Several.{encode_none, encode_more, size_part}
-use Rattle.changes.proofs.Writes.{all_length, spared_from, spared_start, spared_end, spared_keep, spared_skip}
+use Rattle.changes.proofs.Writes.{all_length, spared_start, spared_end, spared_keep, spared_skip}
 use borrow.Enum.Refused.{opened}
 use Rattle.changes.proofs.put_spared.Goals as goal
 

@@ -1,20 +1,11 @@
 -- `changes::put_spared` meets its contract. The invariant: what is left to write, stored from here on, makes of out what all the entries
 -- make of it. The measure is what is left of the dataset.
-use mathlib.Core.Path.{◌≡◌, refl, sym, ap, ◌∙◌}
+use mathlib.Core.Path.{◌≡◌}
 use Prim.Native.Nat.{◌+◌, ◌-◌, ◌≤◌}
-use native.Mathlib.Omega.{arith}
-use native.Mathlib.Nat.{zero-add, add-sub_cancel_left}
 use lib.ListN.{length}
-use borrow.Author.Rules.{rules}
 use Rattle.refusal.specs.Output.{put}
-use Rattle.laws.proofs.Parts.{length_part}
-use Rattle.laws.proofs.Puts.{put_none, put_then}
-use Rattle.laws.proofs.Emits.{placed_next, placed_left}
 use Rattle.tlv_writing.specs.Encode.{encode_all}
-use Rattle.tlv.proofs.Walks.{turn_entries, turn_none, turn_inside}
-use Rattle.tlv_writing.proofs.Encodes.{entry_placed}
-use Rattle.tlv_writing.proofs.Several.{encode_none, encode_more, size_part}
-use Rattle.changes.proofs.Writes.{all_length, spared_from, spared_start, spared_end, spared_keep, spared_skip}
+use Rattle.changes.proofs.Writes.{spared_from}
 use Rattle.changes.proofs.put_spared.Given as goal
 
 abbrev pub invariant-loop-ty : goal.invariant-loop-ty

@@ -10,7 +10,7 @@ use Rattle.refusal.specs.Sizes.{most_bytes, most_entries}
 use Rattle.refusal.specs.Answer.{Answer, given, on_given, then_do}
 use Rattle.refusal.specs.Output.{written_answer}
 use Rattle.laws.proofs.Emits.{emit_refused, emit_done}
-use Rattle.tlv.specs.Entries.{Content, contents, framing}
+use Rattle.tlv.specs.Entries.{contents, framing}
 use Rattle.tlv.specs.Limits.{count}
 use Rattle.tlv_writing.specs.Encode.{encode_all, sized}
 use Rattle.tlv.specs.Answers.{counted_answer}

@@ -1,19 +1,10 @@
 -- `changes::spared_extent` meets its contract. The invariant: what is counted, and what the entries from at on take, is what all take.
 -- The measure is what is left of the dataset.
-use mathlib.Core.Path.{◌≡◌, ap, ◌∙◌}
-use mathlib.Core.List.{List}
+use mathlib.Core.Path.{◌≡◌}
 use Prim.Native.Nat.{◌+◌, ◌*◌, ◌-◌, ◌≤◌}
-use native.Mathlib.Omega.{arith}
-use native.Mathlib.Nat.{zero-add}
 use lib.ListN.{length}
-use borrow.Author.Rules.{rules}
-use Rattle.tlv.specs.Entries.{Content}
 use Rattle.tlv_writing.specs.Encode.{encode_all}
-use Rattle.tlv.proofs.Walks.{turn_entries, turn_none, turn_inside}
-use Rattle.tlv_writing.proofs.Encodes.{size_bound, entry_size_lem}
-use Rattle.changes.specs.Loops.{extent_of}
-use Rattle.tlv_writing.proofs.Several.{encode_none}
-use Rattle.changes.proofs.Writes.{all_length, extent_is, spared_from, spared_start, spared_end, spared_keep, spared_skip}
+use Rattle.changes.proofs.Writes.{spared_from}
 use Rattle.changes.proofs.spared_extent.Given as goal
 
 abbrev pub invariant-loop-ty : goal.invariant-loop-ty

@@ -6,7 +6,6 @@ use Rattle.channel_masks.specs.Mask.{mask_answer}
 use Rattle.dataset_parts.specs.Parts.{mask_spot}
 use Rattle.dataset.proofs.Finds.{found_inside, none_found, found_refused}
 use Rattle.dataset_parts.proofs.Keeps.{mask_told}
-use borrow.Author.Rules.{rules}
 use Rattle.dataset_parts.proofs.channel_mask.Goals as goal
 
 pub overflow_add-end : goal.overflow_add-end

@@ -7,7 +7,6 @@ use Rattle.tlv_last.specs.Last.{spot}
 use Rattle.dataset_parts.specs.Parts.{name_entry}
 use Rattle.dataset.proofs.Finds.{found_inside, none_found, found_refused}
 use Rattle.dataset_parts.proofs.Keeps.{name_kept, name_refused}
-use borrow.Author.Rules.{rules}
 use borrow.Enum.Refused.{opened}
 use Rattle.dataset_parts.proofs.network_name.Goals as goal
 

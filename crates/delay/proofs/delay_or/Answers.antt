@@ -3,7 +3,6 @@ use mathlib.Core.Path.{sym, ap, ◌∙◌}
 use Rattle.refusal.specs.Answer.{given, absent, refused}
 use Rattle.wire.specs.Be.{answer32}
 use Rattle.delay.proofs.Cases.{working_by}
-use borrow.Author.Rules.{rules}
 use Rattle.delay.proofs.delay_or.Goals as goal
 
 pub returns-in-Value : goal.returns-in-Value

@@ -3,7 +3,6 @@ use mathlib.Core.Path.{sym, ap, ◌∙◌}
 use native.Mathlib.Omega.{arith}
 use Rattle.delay.specs.Answers.{working_answer}
 use Rattle.delay.proofs.Cases.{due_refused, due_late, due_given}
-use borrow.Author.Rules.{rules}
 use Rattle.delay.proofs.due_or.Goals as goal
 
 pub returns-then-clock-gt-MAX_NOW : goal.returns-then-clock-gt-MAX_NOW

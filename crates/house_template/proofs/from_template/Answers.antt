@@ -3,7 +3,6 @@ use mathlib.Core.Path.{refl, sym, ap}
 use Rattle.refusal.specs.Answer.{given, absent, refused}
 use Rattle.tlv_last.specs.Answers.{found_answer}
 use Rattle.house_template.proofs.Supplies.{firsts}
-use borrow.Author.Rules.{rules}
 use Rattle.house_template.proofs.from_template.Goals as goal
 
 pub returns-in-At : goal.returns-in-At

@@ -3,7 +3,6 @@ use mathlib.Core.Path.{refl, sym, ap, ◌∙◌}
 use Rattle.refusal.specs.Answer.{given, refused}
 use Rattle.tlv_last.specs.Answers.{found_answer}
 use Rattle.house_template.proofs.Supplies.{firsts, site_stays}
-use borrow.Author.Rules.{rules}
 use borrow.Enum.Refused.{opened}
 use Rattle.house_template.proofs.site_first.Goals as goal
 

@@ -1,7 +1,6 @@
 -- `house_template::supplied_entry` meets its contract, by what the two queries answered.
 use mathlib.Core.Path.{◌∙◌}
 use Rattle.house_template.proofs.Supplies.{firsts, spots_first}
-use borrow.Author.Rules.{rules}
 use Rattle.house_template.proofs.supplied_entry.Goals as goal
 
 pub returns : goal.returns
