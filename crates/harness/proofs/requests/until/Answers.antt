@@ -15,7 +15,10 @@ loop-i-init c = (search rules, omega arith)
 pub returns-then-s-i : goal.returns-then-s-i
 returns-then-s-i c =
     let a = c.args in
-    (search rules, omega (arith, before_here a.stop a.s.now _ c.loop-i-test.true (eq-eqb _ _ c.if-s-i.true), c.loop-i.invariant.1))
+    record {
+      upper_bound = search rules;
+      value = omega (arith, before_here a.stop a.s.now _ c.loop-i-test.true (eq-eqb _ _ c.if-s-i.true), c.loop-i.invariant.1);
+    }
 
 pub loop-i-preserved : goal.loop-i-preserved
 loop-i-preserved c =
@@ -25,4 +28,4 @@ loop-i-preserved c =
 pub returns : goal.returns
 returns c =
     let a = c.args in
-    (search rules, omega (arith, before_end a.stop a.s.now _ c.loop-i-test.false, c.loop-i.invariant.1))
+    record { upper_bound = search rules; value = omega (arith, before_end a.stop a.s.now _ c.loop-i-test.false, c.loop-i.invariant.1) }
