@@ -215,6 +215,7 @@ fn put_removals(marks: [usize; 256], out: &mut [u8]) -> usize
 }
 
 // Whether a result of so many bytes and entries or operations is within the sizes, and then whether it has room: 10, 11.
+#[tactic(auto, unfolding(crate::specs::Loops::room_for))]
 fn room_for(bytes: usize, entries: usize, room: usize) -> Written
     ensures { written_answer result ≡ room_for bytes entries room }
 {
