@@ -3,7 +3,7 @@
 use mathlib.Core.Path.{◌≡◌, refl, sym, ap, subst, ◌∙◌}
 use mathlib.Core.Bool.{Bool}
 use mathlib.Core.List.{List}
-use Prim.Native.Nat.{ℕ, ◌≤◌}
+use Prim.Native.Nat.{ℕ}
 use lib.ListN.{length, take}
 use Rattle.tables.specs.Fold.{fold}
 use Rattle.diag.specs.declared.NetDiagData.{NetDiagData}
@@ -13,10 +13,10 @@ use Rattle.network_data.specs.declared.HasRouteEntry.{HasRouteEntry}
 use Rattle.network_data.specs.declared.BorderRouterEntry.{BorderRouterEntry}
 use Rattle.diag_rows.specs.declared.ChildTableEntry.{ChildTableEntry}
 use Rattle.diag_rows.specs.declared.ChildIpv6AddrInfo.{ChildIpv6AddrInfo}
-use Rattle.record_writing.specs.Lent.{Lent, lent}
+use Rattle.record_writing.specs.Lent.{lent}
 use Rattle.diag_writing.specs.Checks.{passed_route, passed_border, passed_child, passed_prefix, passed_list}
 use Rattle.writing_plans.specs.Used.{no_prefixes, no_lists, used_of}
-use Rattle.diag_writing.specs.Plans.{Scanned, Planned, Judged}
+use Rattle.diag_writing.specs.Plans.{Planned, Judged}
 use Rattle.writing_walks.specs.declared.Prefixes.{Prefixes}
 use Rattle.writing_walks.specs.declared.Lists.{Lists}
 use Rattle.writing_walks.specs.declared.Used.{Used}

@@ -1,16 +1,16 @@
 -- What the code answers as it goes through the lent tables, by its tests.
 -- Assumes nothing.
-use mathlib.Core.Path.{◌≡◌, refl, sym, ◌∙◌}
+use mathlib.Core.Path.{◌≡◌, refl}
 use mathlib.Core.Bool.{Bool, true, false}
 use Prim.Native.Nat.{ℕ, ◌+◌, ◌-◌, ◌≤◌, ◌<◌}
 use native.Mathlib.Omega.{arith}
 use native.Mathlib.Nat.{add-zero}
 use lib.Dec.{leb}
-use borrow.Author.Tests.{leb-true, leb-false, le-leb, lt-leb}
+use borrow.Author.Tests.{leb-true, le-leb, lt-leb}
 use Rattle.refusal.specs.Sizes.{most_bytes}
 use Rattle.refusal.specs.Answer.{pick}
 use Rattle.laws.proofs.Tests.{by_test}
-use Rattle.tlv_writing.specs.Encode.{size_of, entry_size}
+use Rattle.tlv_writing.specs.Encode.{entry_size}
 use Rattle.network_data.specs.declared.PrefixEntry.{PrefixEntry}
 use Rattle.network_writing.specs.Fits.{context_fits}
 use Rattle.network_writing.specs.Tables.{context_of}

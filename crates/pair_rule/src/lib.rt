@@ -39,6 +39,7 @@ impl Pairing {
     }
 
     // What a number of an output says.
+    #[tactic(auto, unfolding(crate::specs::Codes::meant))]
     pub fn from_code(code: u16) -> Pairing
         ensures { result ≡ meant code }
     {
