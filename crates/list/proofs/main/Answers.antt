@@ -1,6 +1,5 @@
 -- `list::main` is safe: the count that `report_text` answers lies within the text.
 use native.Mathlib.Omega.{arith}
-use borrow.Author.Rules.{rules}
 use Rattle.laws.proofs.Callers.{gave_inside}
 use Rattle.list.proofs.main.Goals as goal
 

@@ -13,7 +13,7 @@ unfolding code
 counted x n a e same = same ∙ ap code e
 
 pub returns-in-Entries : goal.returns-in-Entries
-returns-in-Entries c = counted _ _ _ (sym (ap counted_answer c.in-Entries.is) ∙ c.«count_entries».ensures) (omega arith)
+returns-in-Entries c = counted _ _ _ (sym (ap counted_answer c.in-Entries.is) ∙ c.count_entries.ensures) (omega arith)
 
 pub returns-in-Refused : goal.returns-in-Refused
-returns-in-Refused c = c.coded.ensures ∙ ap code (sym (ap counted_answer c.in-Refused.is) ∙ c.«count_entries».ensures)
+returns-in-Refused c = c.coded.ensures ∙ ap code (sym (ap counted_answer c.in-Refused.is) ∙ c.count_entries.ensures)

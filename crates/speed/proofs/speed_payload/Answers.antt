@@ -7,7 +7,7 @@ use Rattle.speed.proofs.speed_payload.Goals as goal
 
 pub returns-in-Sum : goal.returns-in-Sum
 unfolding code
-returns-in-Sum c = ap code (sym (ap summed_answer c.in-Sum.is) ∙ c.«sum-payload».ensures)
+returns-in-Sum c = ap code (sym (ap summed_answer c.in-Sum.is) ∙ c.sum_payload.ensures)
 
 pub returns-in-Refused : goal.returns-in-Refused
-returns-in-Refused c = c.coded.ensures ∙ ap code (sym (ap summed_answer c.in-Refused.is) ∙ c.«sum-payload».ensures)
+returns-in-Refused c = c.coded.ensures ∙ ap code (sym (ap summed_answer c.in-Refused.is) ∙ c.sum_payload.ensures)
