@@ -2,11 +2,12 @@
 #![tactic(auto)]
 
 ghost use Rattle.std.specs.Prelude.{◌≡◌, [], ◌∷◌, ◌+◌, ◌/◌, ◌%◌, ◌≤◌, ◌<◌, length, replicate};
-ghost use Rattle.refusal.specs.Output.{output, emit, put, placing, written_answer};
+ghost use Rattle.refusal.specs.Output.{output, emit, put, placing};
+ghost use Rattle.refusal.specs.Results.{answer_of};
 ghost use Rattle.address_forms.specs.AddressRead.{fields_of, gap_of, both_sides, text_address};
 ghost use Rattle.address_reading.specs.Loops.{nibble, added, ended, Taken, of_eight};
 
-use refusal::{Fault, Written};
+use refusal::{Fault, Refusal};
 
 // The count where a text is not groups, or is more of them than an address has.
 const NO_GROUPS: usize = 9;
@@ -67,10 +68,7 @@ fn take_parted(text: &[u8], out: &mut [u8]) -> usize
     let mut count = 0;
     let mut n: usize = 0;
     let mut v: u16 = 0;
-    let mut i = 0;
-    while i < text.len() {
-        let c = text[i];
-        i += 1;
+    for &c in text {
         if c == b':' {
             count = end_group(v, n, out, count);
             if count == NO_GROUPS {
@@ -83,7 +81,7 @@ fn take_parted(text: &[u8], out: &mut [u8]) -> usize
             if d == 16 {
                 return NO_GROUPS;
             }
-            v = v * 16 + (d as u16);
+            v = v * 16 + d as u16;
             n += 1;
         }
     }
@@ -95,7 +93,7 @@ fn take_groups(text: &[u8], out: &mut [u8]) -> usize
     requires { 16 ≤ length out.old }
     ensures { Taken (fields_of text.now) out.old out.new result }
 {
-    if text.len() == 0 {
+    if text.is_empty() {
         0
     } else {
         take_parted(text, out)
@@ -106,12 +104,10 @@ fn take_groups(text: &[u8], out: &mut [u8]) -> usize
 fn find_gap(text: &[u8]) -> usize
     ensures { result ≡ gap_of text.now }
 {
-    let mut i = 0;
-    while i + 1 < text.len() {
-        if (text[i] == b':') & (text[i + 1] == b':') {
-            return i;
+    for i in 1..text.len() {
+        if (text[i - 1] == b':') & (text[i] == b':') {
+            return i - 1;
         }
-        i += 1;
     }
     text.len()
 }
@@ -151,8 +147,8 @@ fn take_text(text: &[u8], out: &mut [u8]) -> usize
 }
 
 // The 16 bytes that a text stands for, at the start of out. Refusals: 16, 11.
-pub fn read_address(text: &[u8], out: &mut [u8]) -> Written
-    ensures { output (written_answer result) out.new ≡ emit (text_address text.now) out.old }
+pub fn read_address(text: &[u8], out: &mut [u8]) -> Result<usize, Refusal>
+    ensures { output (answer_of result) out.new ≡ emit (text_address text.now) out.old }
 {
     let mut bytes = [0u8; 16];
     let count = take_text(text, &mut bytes);
@@ -163,5 +159,5 @@ pub fn read_address(text: &[u8], out: &mut [u8]) -> Written
         return refusal::refuse(Fault::NoRoom, 0);
     }
     copying::put_bytes(&bytes, out, 0);
-    Written::Bytes(16)
+    Ok(16)
 }

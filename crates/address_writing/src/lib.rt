@@ -3,7 +3,8 @@
 
 ghost use Rattle.std.specs.Prelude.{◌≡◌, [], ◌∷◌, ◌+◌, ◌*◌, ◌≤◌, ◌<◌, eqb, length, drop};
 ghost use Rattle.refusal.specs.Answer.{pick, given};
-ghost use Rattle.refusal.specs.Output.{output, emit, put, placing, placed, written_answer};
+ghost use Rattle.refusal.specs.Output.{output, emit, put, placing, placed};
+ghost use Rattle.refusal.specs.Results.{answer_of};
 ghost use Rattle.hex_text.specs.HexText.{hex_text};
 ghost use Rattle.address_forms.specs.Groups.{groups};
 ghost use Rattle.address_forms.specs.Colons.{led};
@@ -11,20 +12,17 @@ ghost use Rattle.address_forms.specs.AddressForms.{most_text};
 ghost use Rattle.address_forms.specs.AddressText.{group_text, texts, parted, longer_of, run, longest_from, around, address_text};
 
 use address_forms::Run;
-use refusal::{Fault, Written};
+use refusal::{Fault, Refusal};
+
+// The fewest groups that "::" stands for.
+const FEWEST: usize = 2;
 
 // How many groups in a row are zero, from one group on, where so many are from the next group on.
 fn zeros_from(hi: u8, lo: u8, next: usize) -> usize
     requires { next < 65536 }
     ensures { result ≡ pick (eqb (hi * 256 + lo) 0) (next + 1) 0 }
 {
-    if hi != 0 {
-        return 0;
-    }
-    if lo != 0 {
-        return 0;
-    }
-    next + 1
+    if hi == 0 && lo == 0 { next + 1 } else { 0 }
 }
 
 // The longer of two runs, the first where they are equal.
@@ -43,11 +41,9 @@ fn longest_run(bytes: &[u8]) -> Run
     requires { length bytes.now ≡ 16 }
     ensures { result ≡ longest_from 0 (groups bytes.now) }
 {
-    let mut k = bytes.len() / 2;
-    let mut best = Run { start: k, len: 0 };
+    let mut best = Run { start: 8, len: 0 };
     let mut zeros = 0;
-    while k > 0 {
-        k -= 1;
+    for k in (0..8).rev() {
         zeros = zeros_from(bytes[2 * k], bytes[2 * k + 1], zeros);
         best = longer(
             Run {
@@ -82,7 +78,7 @@ fn put_group(hi: u8, lo: u8, out: &mut [u8], at: usize) -> usize
 {
     let pair = [hi, lo];
     let mut four = [0u8; 4];
-    hex_text::encode(&pair, &mut four);
+    let _ = hex_text::encode(&pair, &mut four); // it has room
     let skip = leading(hi, lo);
     copying::put_bytes(&four[skip..4], out, at)
 }
@@ -93,11 +89,11 @@ fn put_led(bytes: &[u8], out: &mut [u8], at: usize) -> usize
     ensures { (result ≡ at + length (led (texts (groups bytes.now)))) × (out.new ≡ put out.old at (led (texts (groups bytes.now)))) }
 {
     let mut next = at;
-    let mut i = 0;
-    while i + 1 < bytes.len() {
+    let mut rest = bytes;
+    while let [hi, lo, tail @ ..] = rest {
         out[next] = b':';
-        next = put_group(bytes[i], bytes[i + 1], out, next + 1);
-        i += 2;
+        next = put_group(*hi, *lo, out, next + 1);
+        rest = tail;
     }
     next
 }
@@ -107,11 +103,11 @@ fn put_parted(bytes: &[u8], out: &mut [u8], at: usize) -> usize
     requires { at + length (parted (groups bytes.now)) ≤ length out.old }
     ensures { (result ≡ at + length (parted (groups bytes.now))) × (out.new ≡ put out.old at (parted (groups bytes.now))) }
 {
-    if bytes.len() < 2 {
+    let [hi, lo, tail @ ..] = bytes else {
         return at;
-    }
-    let next = put_group(bytes[0], bytes[1], out, at);
-    put_led(&bytes[2..], out, next)
+    };
+    let next = put_group(*hi, *lo, out, at);
+    put_led(tail, out, next)
 }
 
 // The groups before a run, "::", and the groups after it, at the start of out.
@@ -133,18 +129,16 @@ fn lay_text(address: &[u8], out: &mut [u8]) -> usize
     ensures { (result ≡ length (address_text address.now)) × (result ≤ most_text) × (out.new ≡ put out.old 0 (address_text address.now)) }
 {
     let run = longest_run(address);
-    let start = run.start;
-    let len = run.len;
-    if len < 2 {
+    if run.len < FEWEST {
         put_parted(address, out, 0)
     } else {
-        put_around(address, start, len, out)
+        put_around(address, run.start, run.len, out)
     }
 }
 
 // The text of an address, at the start of out. Refusal: 11.
-pub fn write_address(address: [u8; 16], out: &mut [u8]) -> Written
-    ensures { output (written_answer result) out.new ≡ emit (given (address_text address)) out.old }
+pub fn write_address(address: [u8; 16], out: &mut [u8]) -> Result<usize, Refusal>
+    ensures { output (answer_of result) out.new ≡ emit (given (address_text address)) out.old }
 {
     let mut text = [0u8; address_forms::MAX_TEXT];
     let n = lay_text(&address, &mut text);
@@ -152,5 +146,5 @@ pub fn write_address(address: [u8; 16], out: &mut [u8]) -> Written
         return refusal::refuse(Fault::NoRoom, 0);
     }
     copying::put_bytes(&text[0..n], out, 0);
-    Written::Bytes(n)
+    Ok(n)
 }

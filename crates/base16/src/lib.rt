@@ -2,11 +2,12 @@
 #![tactic(auto)]
 
 ghost use Rattle.std.specs.Prelude.{◌≡◌, true, ◌*◌, ◌≤◌, ◌<◌, length};
-ghost use Rattle.refusal.specs.Output.{output, emit, put, written_answer};
+ghost use Rattle.refusal.specs.Output.{output, emit, put};
+ghost use Rattle.refusal.specs.Results.{answer_of};
 ghost use Rattle.base16.specs.Base16.{decoded};
 ghost use Rattle.base16.specs.Loops.{is_digit, value_of, all_digits, first_bad, paired};
 
-use refusal::{Fault, Written};
+use refusal::{Fault, Refusal};
 
 fn is_digit(c: u8) -> bool
     ensures { result ≡ is_digit c }
@@ -22,10 +23,8 @@ fn all_digits(text: &[u8]) -> bool
     ensures { result ≡ all_digits text.now }
 {
     let mut good = true;
-    let mut i = 0;
-    while i < text.len() {
-        good = good & is_digit(text[i]);
-        i += 1;
+    for c in text {
+        good = good & is_digit(*c);
     }
     good
 }
@@ -37,14 +36,12 @@ fn first_bad(text: &[u8]) -> usize
     if all_digits(text) {
         return text.len();
     }
-    let mut i = 0;
-    while i < text.len() {
-        if !is_digit(text[i]) {
+    for (i, c) in text.iter().enumerate() {
+        if !is_digit(*c) {
             return i;
         }
-        i += 1;
     }
-    i
+    text.len()
 }
 
 // The value of a digit. A letter's last four bits, in both cases, are its value less 9.
@@ -60,17 +57,14 @@ fn put_bytes(text: &[u8], out: &mut [u8])
     requires { (all_digits text.now ≡ true) × (length text.now ≤ 2 * length out.old) }
     ensures { out.new ≡ put out.old 0 (paired text.now) }
 {
-    let n = text.len() / 2;
-    let mut i = 0;
-    while i < n {
+    for i in 0..text.len() / 2 {
         out[i] = value(text[2 * i]) * 16 + value(text[2 * i + 1]);
-        i += 1;
     }
 }
 
 // The bytes that hex text stands for, at the start of out. Refusals: 1, 7, 8, 11.
-pub fn decode(text: &[u8], out: &mut [u8]) -> Written
-    ensures { output (written_answer result) out.new ≡ emit (decoded text.now) out.old }
+pub fn decode(text: &[u8], out: &mut [u8]) -> Result<usize, Refusal>
+    ensures { output (answer_of result) out.new ≡ emit (decoded text.now) out.old }
 {
     if text.len() > refusal::MAX_DIGITS {
         return refusal::refuse(Fault::TooLarge, 0);
@@ -87,5 +81,5 @@ pub fn decode(text: &[u8], out: &mut [u8]) -> Written
         return refusal::refuse(Fault::NoRoom, 0);
     }
     put_bytes(text, out);
-    Written::Bytes(n)
+    Ok(n)
 }

@@ -3,10 +3,8 @@ use crate::sheet::{Score, judge, put_said};
 use crate::text::{
     Room, empty, part_of, put, put_either, put_hex, put_number, put_refusal, put_word,
 };
-use diag_rows::{ChildTableEntry, ReadChild};
-use diag_rules::Judged;
-use network_data::{Checked, HasRouteEntry, PrefixEntry};
-use network_tables::ReadHasRoute;
+use diag_rows::ChildTableEntry;
+use network_data::{HasRouteEntry, PrefixEntry};
 use route64::{Route64, RouteDataEntry};
 use std::io;
 
@@ -22,12 +20,10 @@ fn put_row(text: &mut Room, at: usize, row: RouteDataEntry) -> usize {
 fn put_rows(text: &mut Room, at: usize, route: Route64) -> usize {
     let rows = route.route_data;
     let mut next = put_number(text, at, b"rows ", route.count as u64);
-    let mut k = 0;
-    while k < 64 {
+    for (k, row) in rows.iter().enumerate() {
         if k < route.count {
-            next = put_row(text, next, rows[k]);
+            next = put_row(text, next, *row);
         }
-        k += 1;
     }
     next
 }
@@ -35,18 +31,14 @@ fn put_rows(text: &mut Room, at: usize, route: Route64) -> usize {
 fn routes(score: Score, value: &[u8], stated: &[u8]) -> io::Result<Score> {
     let mut text = empty();
     let said = put_said(&mut text, b"Route64 ", value, b": ");
-    let read = route64::decode_route64(value, 0);
-    let route = read.route;
-    let answer = read.answer;
-    let end = match answer {
-        Judged::Kept => put_rows(&mut text, said, route),
-        Judged::Refused(r) => put_refusal(&mut text, said, r),
+    let end = match route64::decode_route64(value, 0) {
+        Ok(route) => put_rows(&mut text, said, route),
+        Err(r) => put_refusal(&mut text, said, r),
     };
     judge(score, &mut text, said, end, stated)
 }
 
 fn put_child(text: &mut Room, at: usize, child: ChildTableEntry) -> usize {
-    let mode = child.mode;
     let exponent = put_number(text, at, b"exponent ", child.timeout_exponent as u64);
     let quality = put_number(
         text,
@@ -59,14 +51,14 @@ fn put_child(text: &mut Room, at: usize, child: ChildTableEntry) -> usize {
     let receiver = put_either(
         text,
         timeout,
-        mode.rx_on_when_idle,
+        child.mode.rx_on_when_idle,
         b" s, receiver on",
         b" s, receiver off",
     );
     put_either(
         text,
         receiver,
-        mode.is_mtd,
+        child.mode.is_mtd,
         b", minimal device",
         b", full device",
     )
@@ -76,9 +68,9 @@ fn child(score: Score, value: &[u8], stated: &[u8]) -> io::Result<Score> {
     let mut text = empty();
     let said = put_said(&mut text, b"child row ", value, b": ");
     let end = match diag_rows::child_row(value, 0) {
-        ReadChild::Value(c) => put_child(&mut text, said, c),
-        ReadChild::Absent => put(&mut text, said, b"absent"),
-        ReadChild::Refused(r) => put_refusal(&mut text, said, r),
+        Ok(Some(c)) => put_child(&mut text, said, c),
+        Ok(None) => put(&mut text, said, b"absent"),
+        Err(r) => put_refusal(&mut text, said, r),
     };
     judge(score, &mut text, said, end, stated)
 }
@@ -93,9 +85,9 @@ fn has_route(score: Score, value: &[u8], stated: &[u8]) -> io::Result<Score> {
     let mut text = empty();
     let said = put_said(&mut text, b"HasRoute of Network Data ", value, b": ");
     let end = match network_tables::has_route_at(value, 0) {
-        ReadHasRoute::Value(row) => put_has_route(&mut text, said, row),
-        ReadHasRoute::Absent => put(&mut text, said, b"absent"),
-        ReadHasRoute::Refused(r) => put_refusal(&mut text, said, r),
+        Ok(Some(row)) => put_has_route(&mut text, said, row),
+        Ok(None) => put(&mut text, said, b"absent"),
+        Err(r) => put_refusal(&mut text, said, r),
     };
     judge(score, &mut text, said, end, stated)
 }
@@ -109,17 +101,21 @@ fn put_prefix(text: &mut Room, at: usize, entry: PrefixEntry) -> usize {
     put_hex(text, word, part_of(&bytes, 0, (bits + 7) / 8))
 }
 
+// How many prefixes, and the first.
+fn put_prefixes(text: &mut Room, at: usize, value: &[u8], n: usize) -> usize {
+    let count = put_number(text, at, b"prefixes ", n as u64);
+    match network_tables::prefix_at(value, 0) {
+        Ok(Some(entry)) => put_prefix(text, count, entry),
+        _ => count,
+    }
+}
+
 fn network(score: Score, value: &[u8], stated: &[u8]) -> io::Result<Score> {
     let mut text = empty();
     let said = put_said(&mut text, b"Network Data ", value, b": ");
-    let first = network_tables::prefix_at(value, 0);
-    let entry = first.entry;
     let end = match network_data::check(value, 0) {
-        Checked::Counted(c) => {
-            let count = put_number(&mut text, said, b"prefixes ", c.prefixes as u64);
-            put_prefix(&mut text, count, entry)
-        }
-        Checked::Refused(r) => put_refusal(&mut text, said, r),
+        Ok(c) => put_prefixes(&mut text, said, value, c.prefixes),
+        Err(r) => put_refusal(&mut text, said, r),
     };
     judge(score, &mut text, said, end, stated)
 }

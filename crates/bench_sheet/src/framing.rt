@@ -2,30 +2,30 @@
 use crate::sheet::{Score, judge, put_said, put_written};
 use crate::text::{Room, empty, put_number, put_refusal};
 use std::io;
-use tlv::{Counted, Parsed};
+use tlv::Head;
 
 // The first entry's type and length.
 fn put_first(text: &mut Room, at: usize, s: &[u8]) -> usize {
     match tlv::parse_one(s) {
-        Parsed::Entry { ty, header, len } => {
+        Ok(Head { ty, header, len }) => {
             let first = put_number(text, at, b": type ", ty as u64);
             let second = put_number(text, first, b", header ", header as u64);
             put_number(text, second, b", length ", len as u64)
         }
-        Parsed::Refused(r) => put_refusal(text, at, r),
+        Err(r) => put_refusal(text, at, r),
     }
 }
 
 fn put_entries(text: &mut Room, at: usize, s: &[u8]) -> usize {
     match tlv::count_entries(s, 0) {
-        Counted::Entries(n) => {
+        Ok(n) => {
             let count = put_number(text, at, b"entries ", n as u64);
             if n == 0 {
                 return count;
             }
             put_first(text, count, s)
         }
-        Counted::Refused(r) => put_refusal(text, at, r),
+        Err(r) => put_refusal(text, at, r),
     }
 }
 

@@ -1,18 +1,14 @@
 // The lines on how long a single value may be: "A single entry or mask value is bound by 13 and 11 only, not 10".
 use crate::sheet::{Score, judge};
-use crate::text::{
-    ROOM, Room, empty, part_of, put, put_either, put_hex, put_number, put_refusal, same,
-};
-use refusal::Written;
+use crate::text::{Room, empty, part_of, put, put_either, put_hex, put_number, put_refusal};
+use refusal::Refusal;
 use std::io;
 
 // A value of which no two neighbours are the same.
 fn long_value() -> Room {
     let mut value = empty();
-    let mut i = 0;
-    while i < ROOM {
-        value[i] = (i % 251) as u8;
-        i += 1;
+    for (i, b) in value.iter_mut().enumerate() {
+        *b = (i % 251) as u8;
     }
     value
 }
@@ -25,14 +21,20 @@ fn put_ahead(text: &mut Room, at: usize, wrote: &[u8], value: &[u8]) -> usize {
     }
     let head = n - value.len();
     let next = put_hex(text, at, part_of(wrote, 0, head));
-    let kept = same(part_of(wrote, head, n), value);
+    let kept = part_of(wrote, head, n) == value;
     put_either(text, next, kept, b" and the value", b" and other bytes")
 }
 
-fn put_long(text: &mut Room, at: usize, written: Written, out: &Room, value: &[u8]) -> usize {
+fn put_long(
+    text: &mut Room,
+    at: usize,
+    written: Result<usize, Refusal>,
+    out: &Room,
+    value: &[u8],
+) -> usize {
     match written {
-        Written::Bytes(k) => put_ahead(text, at, part_of(out, 0, k), value),
-        Written::Refused(r) => put_refusal(text, at, r),
+        Ok(k) => put_ahead(text, at, part_of(out, 0, k), value),
+        Err(r) => put_refusal(text, at, r),
     }
 }
 
@@ -44,7 +46,7 @@ fn put_lengths(text: &mut Room, before: &[u8], value: &[u8], lent: usize) -> usi
 }
 
 // One entry into the first bytes of an output.
-fn write_entry(value: &[u8], out: &mut [u8], lent: usize) -> Written {
+fn write_entry(value: &[u8], out: &mut [u8], lent: usize) -> Result<usize, Refusal> {
     if lent <= out.len() {
         return tlv_writing::write_entry(3, value, &mut out[0..lent]);
     }
@@ -52,7 +54,7 @@ fn write_entry(value: &[u8], out: &mut [u8], lent: usize) -> Written {
 }
 
 // One mask item likewise.
-fn write_mask(mask: &[u8], out: &mut [u8], lent: usize) -> Written {
+fn write_mask(mask: &[u8], out: &mut [u8], lent: usize) -> Result<usize, Refusal> {
     if lent <= out.len() {
         return channel_masks::write_mask_item(0, mask, &mut out[0..lent]);
     }

@@ -1,7 +1,7 @@
 // The lines on change lists, and the listing.
 use crate::sheet::{Score, judge, put_said, put_written};
 use crate::text::{Room, empty, part_of, put, put_hex, put_refusal};
-use refusal::Written;
+use refusal::Refusal;
 use std::io;
 
 fn folded(score: Score, list: &[u8], stated: &[u8]) -> io::Result<Score> {
@@ -24,10 +24,10 @@ fn ran(score: Score, list: &[u8], dataset: &[u8], stated: &[u8]) -> io::Result<S
     judge(score, &mut text, said, end, stated)
 }
 
-fn put_listing(text: &mut Room, at: usize, written: Written, out: &Room) -> usize {
+fn put_listing(text: &mut Room, at: usize, written: Result<usize, Refusal>, out: &Room) -> usize {
     match written {
-        Written::Bytes(k) => put(text, at, part_of(out, 0, k)),
-        Written::Refused(r) => put_refusal(text, at, r),
+        Ok(k) => put(text, at, part_of(out, 0, k)),
+        Err(r) => put_refusal(text, at, r),
     }
 }
 

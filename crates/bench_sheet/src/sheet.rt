@@ -1,9 +1,8 @@
 // A line of the sheet: what it says of an input, what was got, and whether that is what the sheet states.
-use crate::text::{Room, empty, part_of, put, put_hex, put_number, put_refusal, same};
-use refusal::Written;
+use crate::text::{Room, empty, part_of, put, put_hex, put_number, put_refusal};
+use refusal::Refusal;
 use std::io;
 use std::io::Stdout;
-use std::num::wrapping_add_u64;
 
 // Where the lines are printed, how many were run, and how many of them gave what the sheet states.
 #[derive(Clone, Copy)]
@@ -21,10 +20,15 @@ pub(crate) fn put_said(text: &mut Room, before: &[u8], input: &[u8], after: &[u8
 }
 
 // What a call wrote into a lent output.
-pub(crate) fn put_written(text: &mut Room, at: usize, written: Written, out: &Room) -> usize {
+pub(crate) fn put_written(
+    text: &mut Room,
+    at: usize,
+    written: Result<usize, Refusal>,
+    out: &Room,
+) -> usize {
     match written {
-        Written::Bytes(k) => put_hex(text, at, part_of(out, 0, k)),
-        Written::Refused(r) => put_refusal(text, at, r),
+        Ok(k) => put_hex(text, at, part_of(out, 0, k)),
+        Err(r) => put_refusal(text, at, r),
     }
 }
 
@@ -49,21 +53,13 @@ pub(crate) fn judge(
     end: usize,
     stated: &[u8],
 ) -> io::Result<Score> {
-    let good = same(part_of(text, start, end), stated);
+    let good = part_of(text, start, end) == stated;
     let last = put_verdict(text, end, good, stated);
     print(score.to, text, last)?;
-    let lines = wrapping_add_u64(score.lines, 1);
-    if good {
-        return Ok(Score {
-            to: score.to,
-            lines: lines,
-            good: wrapping_add_u64(score.good, 1),
-        });
-    }
     Ok(Score {
         to: score.to,
-        lines: lines,
-        good: score.good,
+        lines: score.lines.wrapping_add(1),
+        good: score.good.wrapping_add(u64::from(good)),
     })
 }
 

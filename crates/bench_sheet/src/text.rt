@@ -13,26 +13,7 @@ pub(crate) fn empty() -> Room {
 
 // The part of s from start up to end, or no bytes where s has no such part.
 pub(crate) fn part_of<'a>(s: &'a [u8], start: usize, end: usize) -> &'a [u8] {
-    if start <= end {
-        if end <= s.len() {
-            return &s[start..end];
-        }
-    }
-    &s[..0]
-}
-
-pub(crate) fn same(a: &[u8], b: &[u8]) -> bool {
-    if a.len() != b.len() {
-        return false;
-    }
-    let mut i = 0;
-    while i < a.len() {
-        if a[i] != b[i] {
-            return false;
-        }
-        i += 1;
-    }
-    true
+    s.get(start..end).unwrap_or(&s[..0])
 }
 
 fn put_byte(text: &mut Room, at: usize, b: u8) -> usize {
@@ -45,10 +26,8 @@ fn put_byte(text: &mut Room, at: usize, b: u8) -> usize {
 
 pub(crate) fn put(text: &mut Room, at: usize, s: &[u8]) -> usize {
     let mut next = at;
-    let mut i = 0;
-    while i < s.len() {
-        next = put_byte(text, next, s[i]);
-        i += 1;
+    for b in s {
+        next = put_byte(text, next, *b);
     }
     next
 }
@@ -65,15 +44,13 @@ fn put_pair(text: &mut Room, at: usize, b: u8) -> usize {
 
 // Bytes as the sheet writes them, as `03 FF 00`.
 pub(crate) fn put_hex(text: &mut Room, at: usize, s: &[u8]) -> usize {
-    if s.len() == 0 {
+    let Some((first, rest)) = s.split_first() else {
         return put(text, at, b"empty");
-    }
-    let mut next = put_pair(text, at, s[0]);
-    let mut i = 1;
-    while i < s.len() {
+    };
+    let mut next = put_pair(text, at, *first);
+    for b in rest {
         let blank = put_byte(text, next, b' ');
-        next = put_pair(text, blank, s[i]);
-        i += 1;
+        next = put_pair(text, blank, *b);
     }
     next
 }
@@ -81,8 +58,9 @@ pub(crate) fn put_hex(text: &mut Room, at: usize, s: &[u8]) -> usize {
 // Two bytes as one number, as `0x4000`.
 pub(crate) fn put_word(text: &mut Room, at: usize, x: u16) -> usize {
     let mark = put(text, at, b"0x");
-    let high = put_pair(text, mark, (x / 256) as u8);
-    put_pair(text, high, (x % 256) as u8)
+    let [high, low] = x.to_be_bytes();
+    let first = put_pair(text, mark, high);
+    put_pair(text, first, low)
 }
 
 // A number in decimal, after a text.
@@ -102,8 +80,7 @@ pub(crate) fn put_either(text: &mut Room, at: usize, yes: bool, a: &[u8], b: &[u
 
 // A refusal: its number, its place and which input.
 pub(crate) fn put_refusal(text: &mut Room, at: usize, r: Refusal) -> usize {
-    let fault = r.fault;
-    let number = put_number(text, at, b"refused ", fault.number() as u64);
+    let number = put_number(text, at, b"refused ", u64::from(r.fault.number()));
     let place = put_number(text, number, b" ", r.place as u64);
-    put_number(text, place, b" ", r.input as u64)
+    put_number(text, place, b" ", u64::from(r.input))
 }

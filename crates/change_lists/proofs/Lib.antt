@@ -1,5 +1,6 @@
 pub mod Reading
 pub mod Given
-pub mod Papers
 pub mod Places
 pub mod Counts
+pub mod Left
+pub mod Fits

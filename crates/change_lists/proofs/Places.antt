@@ -4,9 +4,6 @@
 use mathlib.Core.Path.{◌≡◌, refl, sym, ap, ◌∙◌, subst}
 use mathlib.Core.Bool.{◌&&◌}
 use mathlib.Core.List.{List, [], ◌∷◌}
-use mathlib.Core.Logic.{⊎_elim}
-use types.Run.{OneOf}
-use denote.Enum.Declared.{tag_of}
 use Prim.Native.Nat.{ℕ, ◌+◌, ◌-◌, ◌≤◌, ◌<◌}
 use native.Mathlib.Omega.{arith}
 use native.Mathlib.Nat.{add-zero}
@@ -19,13 +16,11 @@ use Rattle.tlv.specs.Entries.{First, none, cut, one, first, content, clean, cut_
 use Rattle.tlv.specs.Place.{frame_at}
 use Rattle.tlv.specs.declared.Frame.{Frame}
 use Rattle.tlv.specs.declared.Frame.TheVariants as f
-use Rattle.tlv.specs.contracts.Frame
 use Rattle.tlv.proofs.Walks.{Agree, frame_agrees, Inside, inside}
 use Rattle.change_lists.specs.Operations.{set, remove, FirstOp, nothing, bad, operation, set_of, removal_of, first_op, op_at, Listed, ends_with, after, op_step}
 use Rattle.change_lists.specs.Place.{set_at, op_frame_at}
 use Rattle.change_lists.specs.declared.OpFrame.{OpFrame}
 use Rattle.change_lists.specs.declared.OpFrame.TheVariants as o
-use Rattle.change_lists.specs.contracts.OpFrame
 use Rattle.change_lists.proofs.Reading.{ops_from, ops_step}
 
 -- ---- an operation lies within the list, after its place
@@ -168,16 +163,9 @@ module _ (s : List ℕ) (at : ℕ) (r : OpFrame) (found : r ≡ op_frame_at s at
     pub set_ops : (ops_from s at).ops ≡ op_at at (set (content t (take n (drop a s)))) ∷ (ops_from s (a + n)).ops
     set_ops = ap (λ (w : Listed). w.ops) turn_set
 
--- the arm of a `match` for whatever is no operation
-pub turn_none : (s : List ℕ) (at : ℕ) (r : OpFrame) → r ≡ op_frame_at s at → OneOf (2 ∷ 3 ∷ []) (tag_of OpFrame.the_type r) → (ops_from s at).ops ≡ []
-turn_none s at o.End found k = ap (λ (w : Listed). w.ops) (turn_end s at o.End found refl)
-turn_none s at o.Bad found k = ap (λ (w : Listed). w.ops) (turn_bad s at o.Bad found refl)
-turn_none s at (o.Remove t) found k = ⊎_elim (λ e. absurd (omega arith)) (λ e. absurd (omega arith)) k
-turn_none s at (o.Set t a n) found k = ⊎_elim (λ e. absurd (omega arith)) (λ e. absurd (omega arith)) k
-
 -- the arm of a `match` for a set's entry that is none
-pub set_none : (r : Frame) → OneOf (1 ∷ 2 ∷ []) (tag_of Frame.the_type r) → o.Bad ≡ set_at r
+pub set_none : (r : Frame) → ((t a n : ℕ) → r ≡ f.Entry t a n → ⊥) → o.Bad ≡ set_at r
 unfolding set_at
-set_none f.End k = refl
-set_none f.Cut k = refl
-set_none (f.Entry t a n) k = ⊎_elim (λ e. absurd (omega arith)) (λ e. absurd (omega arith)) k
+set_none f.End never = refl
+set_none f.Cut never = refl
+set_none (f.Entry t a n) never = absurd (never t a n refl)

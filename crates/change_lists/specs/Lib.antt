@@ -1,3 +1,3 @@
 pub mod Operations
 pub mod Place
-pub mod Answers
+pub mod Walk

@@ -9,7 +9,7 @@ use native.Mathlib.Nat.{zero-add}
 use lib.ListN.{length, get_or, length-append, length-map, replicate}
 use borrow.Author.Tests.{le-ltb}
 use Rattle.refusal.specs.Sizes.{most_bytes, most_entries}
-use Rattle.refusal.specs.Answer.{Answer, given, absent, refused, on_given, then_do}
+use Rattle.refusal.specs.Answer.{Answer, given, refused, on_given, then_do}
 use Rattle.refusal.specs.Output.{Output, emit, put}
 use Rattle.laws.proofs.Parts.{every_append, every_byte}
 use Rattle.laws.proofs.Puts.{put_then}
@@ -73,25 +73,6 @@ module _ (d l : List ℕ) where
           ∙ ap sized
           (ap (λ (os : List Op). run_all os cs) (sym (bare_after 0 l)) ∙ run_is (bare (ops_after 0 l)) cs
           ∙ ap₂ ◌++◌ (sym (spared_is m (ops_after 0 l) g fit cs)) (sym (chosen_is m (ops_after 0 l) g fit 0 (0 + length l) (between_after 0 l))))
-
--- by what `first_fault` says of both counts
-pub record Both (a b : Answer ℕ) (x : ℕ) : Type 0 where
-  pub entries : ℕ
-  pub one : given entries ≡ a
-  pub two : given x ≡ b
-
-pub both_given : (a b : Answer ℕ) (x : ℕ) → given x ≡ then_do a (λ (n : ℕ). b) → Both a b x
-both_given (given n) b x e = record { entries = n; one = refl; two = e }
-both_given absent b x e = absurd (let z : ◌≡◌ {A = ℕ} 0 1 = cc in omega arith)
-both_given (refused n p k) b x e = absurd (let z : ◌≡◌ {A = ℕ} 0 1 = cc in omega arith)
-
-fault_by : (d l : List ℕ) (a : Answer ℕ) → a ≡ count 0 d → (n p k : ℕ) → refused n p k ≡ then_do a (λ (x : ℕ). on_given length (operations 1 l)) → refused n p k ≡ ran d l
-fault_by d l (given x) e n p k h = run_list_refused d l x e n p k h
-fault_by d l absent e n p k h = absurd (let z : ◌≡◌ {A = ℕ} 0 1 = cc in omega arith)
-fault_by d l (refused x y z) e n p k h = run_refused d l n p k (h ∙ e)
-
-pub run_fault : (d l : List ℕ) (n p k : ℕ) → refused n p k ≡ then_do (count 0 d) (λ (x : ℕ). on_given length (operations 1 l)) → refused n p k ≡ ran d l
-run_fault d l n p k h = fault_by d l (count 0 d) refl n p k h
 
 pub left_bytes : (m d l : List ℕ) → encode_all (left m d l) ≡ encode_all (spared m (contents (framing d).entries)) ++ encode_sets false (chosen m (ops_after 0 l))
 left_bytes m d l =

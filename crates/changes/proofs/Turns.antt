@@ -3,7 +3,7 @@
 use mathlib.Core.Path.{◌≡◌, refl, sym, ap, ◌∙◌}
 use mathlib.Core.Bool.{true, false}
 use mathlib.Core.List.{List, [], ◌∷◌}
-use Prim.Native.Nat.{ℕ, ◌+◌, ◌<◌}
+use Prim.Native.Nat.{ℕ, ◌+◌, ◌≤◌, ◌<◌}
 use native.Mathlib.Omega.{arith}
 use lib.Dec.{eqb}
 use lib.ListN.{length, get_or, set, length-set}
@@ -12,41 +12,30 @@ use borrow.Author.Tests.{eqb-true, eqb-false, eq-eqb, ne_eqb}
 use Rattle.laws.proofs.Tests.{by_test}
 use Rattle.tlv.specs.Entries.{Content, content}
 use Rattle.change_lists.specs.Operations as op
-use Rattle.change_lists.specs.Operations.{Op, OpAt, op_at, Listed}
+use Rattle.change_lists.specs.Operations.{Op, OpAt, op_at, ops_of}
 use Rattle.change_folds.specs.Fold.{about}
 use Rattle.changes.specs.Loops.{shifted, ops_after, mark_of, last_mark, Marked, set_by, chosen}
-use Rattle.change_lists.proofs.Reading.{ops_from, ops_start}
+use Rattle.change_lists.specs.Walk.{as_op}
+use Rattle.change_lists.specs.declared.walk.Operation.{Operation}
+use Rattle.change_lists.specs.declared.walk.Operation.TheVariants as o
+use Rattle.change_lists.proofs.Fits.{Fit, least}
+use Rattle.tlv_writing.specs.Encode.{encode_all}
+use Rattle.tlv_writing.proofs.Encodes.{size_bound}
+use Rattle.changes.proofs.Writes.{all_length}
 
--- the operations from a place of a list on that stands after base bytes of another
-unfoldable pub later : (base : ℕ) → List ℕ → ℕ → List OpAt
-later base s at = shifted base (ops_from s at).ops
+-- ---- the table of marks: what the operations os that are left leave in marks is what all leave in table
 
-later_start : (base : ℕ) (s : List ℕ) → later base s 0 ≡ ops_after base s
-unfolding later ops_after
-later_start base s = ap (λ (w : Listed). shifted base w.ops) (ops_start s)
-
-later_none : (base : ℕ) (s : List ℕ) (at : ℕ) → (ops_from s at).ops ≡ [] → later base s at ≡ []
-unfolding later shifted
-later_none base s at e = rw e
-
-later_more : (base : ℕ) (s : List ℕ) (at next : ℕ) (x : Op) → (ops_from s at).ops ≡ op_at at x ∷ (ops_from s next).ops
-    → later base s at ≡ op_at (base + at) x ∷ later base s next
-unfolding later shifted
-later_more base s at next x e = rw e
-
--- ---- the table of marks: what the operations from at on leave in marks is what all leave in table
-
-pub record Going (marks table : List ℕ) (base : ℕ) (s : List ℕ) (at : ℕ) : Type 0 where
+pub record Going (marks table : List ℕ) (base : ℕ) (os all : List OpAt) : Type 0 where
   pub full : length marks ≡ 256
-  pub is : (t : ℕ) → t < 256 → last_mark t (get_or marks t 0) (later base s at) ≡ last_mark t (get_or table t 0) (ops_after base s)
+  pub is : (t : ℕ) → t < 256 → last_mark t (get_or marks t 0) (shifted base os) ≡ last_mark t (get_or table t 0) all
 
-pub going_start : (table : List ℕ) (base : ℕ) (s : List ℕ) → length table ≡ 256 → Going table table base s 0
-going_start table base s h = record { full = h; is = λ t l. ap (last_mark t _) (later_start base s) }
+pub going_start : (table : List ℕ) (base : ℕ) (s : List ℕ) → length table ≡ 256 → Going table table base (ops_of s).ops (ops_after base s)
+unfolding ops_after
+going_start table base s h = record { full = h; is = λ t l. refl }
 
-pub going_end : (marks table : List ℕ) (base : ℕ) (s : List ℕ) (at : ℕ) → (ops_from s at).ops ≡ [] → Going marks table base s at
-    → Marked marks table (ops_after base s)
-unfolding last_mark
-going_end marks table base s at e g = record { full = g.full; is = λ t l. sym (ap (last_mark t (get_or marks t 0)) (later_none base s at e)) ∙ g.is t l }
+pub going_end : (marks table : List ℕ) (base : ℕ) (all : List OpAt) → Going marks table base [] all → Marked marks table all
+unfolding last_mark shifted
+going_end marks table base all g = record { full = g.full; is = g.is }
 
 module _ (t best p : ℕ) (x : Op) (os : List OpAt) where
   mark_hit : eqb (about x) t ≡ true → last_mark t best (op_at p x ∷ os) ≡ last_mark t (mark_of p x) os
@@ -57,58 +46,83 @@ module _ (t best p : ℕ) (x : Op) (os : List OpAt) where
   unfolding last_mark
   mark_miss e = rw e
 
-module _ (marks table : List ℕ) (base : ℕ) (s : List ℕ) (at next : ℕ) (g : Going marks table base s at) where
-  going_more : (x : Op) (t : ℕ) → (ops_from s at).ops ≡ op_at at x ∷ (ops_from s next).ops → about x ≡ t → t < 256
-      → Going (set marks t (mark_of (base + at) x)) table base s next
-  going_more x t e a h = record {
-    full = length-set marks t (mark_of (base + at) x) ∙ g.full;
+module _ (marks table : List ℕ) (base p : ℕ) (os all : List OpAt) where
+  going_more : (x : Op) (t : ℕ) → Going marks table base (op_at p x ∷ os) all → about x ≡ t → t < 256
+      → Going (set marks t (mark_of (base + p) x)) table base os all
+  unfolding shifted
+  going_more x t g a h = record {
+    full = length-set marks t (mark_of (base + p) x) ∙ g.full;
     is = λ u l.
-        let was = ap (last_mark u (get_or marks u 0)) (sym (later_more base s at next x e)) ∙ g.is u l in
+        let was = g.is u l in
         by_test (eqb t u)
         (λ f.
         let q : t ≡ u = eqb-true t u f in
-        let w = get_or-set_same marks t (mark_of (base + at) x) 0 (omega (arith, g.full)) in
-        ap (λ (n : ℕ). last_mark u n (later base s next)) (ap (λ (n : ℕ). get_or (set marks t (mark_of (base + at) x)) n 0) (sym q) ∙ w)
-        ∙ sym (mark_hit u _ (base + at) x _ (rw a f)) ∙ was)
+        let w = get_or-set_same marks t (mark_of (base + p) x) 0 (omega (arith, g.full)) in
+        ap (λ (n : ℕ). last_mark u n (shifted base os)) (ap (λ (n : ℕ). get_or (set marks t (mark_of (base + p) x)) n 0) (sym q) ∙ w)
+        ∙ sym (mark_hit u _ (base + p) x _ (rw a f)) ∙ was)
         (λ f.
-        ap (λ (n : ℕ). last_mark u n (later base s next)) (get_or-set_other marks t u (mark_of (base + at) x) 0 (λ z. eqb-false t u f (sym z)))
-        ∙ sym (mark_miss u _ (base + at) x _ (rw a f)) ∙ was);
+        ap (λ (n : ℕ). last_mark u n (shifted base os)) (get_or-set_other marks t u (mark_of (base + p) x) 0 (λ z. eqb-false t u f (sym z)))
+        ∙ sym (mark_miss u _ (base + p) x _ (rw a f)) ∙ was);
   }
 
-  pub going_set : (t : ℕ) (v : List ℕ) → (ops_from s at).ops ≡ op_at at (op.set (content t v)) ∷ (ops_from s next).ops → t < 256
-      → Going (set marks t (base + at + 2)) table base s next
+  pub going_set : (t : ℕ) (v : List ℕ) → Going marks table base (op_at p (op.set (content t v)) ∷ os) all → t < 256
+      → Going (set marks t (base + p + 2)) table base os all
   unfolding about mark_of
-  going_set t v e h = going_more (op.set (content t v)) t e refl h
+  going_set t v g h = going_more (op.set (content t v)) t g refl h
 
-  pub going_removal : (t : ℕ) → (ops_from s at).ops ≡ op_at at (op.remove t) ∷ (ops_from s next).ops → t < 256 → Going (set marks t 1) table base s next
+  pub going_removal : (t : ℕ) → Going marks table base (op_at p (op.remove t) ∷ os) all → t < 256 → Going (set marks t 1) table base os all
   unfolding about mark_of
-  going_removal t e h = going_more (op.remove t) t e refl h
+  going_removal t g h = going_more (op.remove t) t g refl h
 
--- ---- what the marks choose of the operations from at on
+-- ---- what the marks choose of the operations that are left
 
-unfoldable pub chosen_from : (marks : List ℕ) → (base : ℕ) → List ℕ → ℕ → List Content
-chosen_from m base s at = chosen m (later base s at)
+abbrev pub chosen_of : (marks : List ℕ) → (base : ℕ) → List OpAt → List Content
+chosen_of m base os = chosen m (shifted base os)
 
-module _ (m : List ℕ) (base : ℕ) (s : List ℕ) where
-  pub chosen_start : chosen_from m base s 0 ≡ chosen m (ops_after base s)
-  unfolding chosen_from
-  chosen_start = ap (chosen m) (later_start base s)
+module _ (m : List ℕ) (base : ℕ) where
+  pub chosen_all : (s : List ℕ) → chosen_of m base (ops_of s).ops ≡ chosen m (ops_after base s)
+  unfolding ops_after
+  chosen_all s = refl
 
-  module _ (at : ℕ) where
-    pub chosen_end : (ops_from s at).ops ≡ [] → chosen_from m base s at ≡ []
-    unfolding chosen_from chosen
-    chosen_end e = rw (later_none base s at e)
+  pub chosen_none : chosen_of m base [] ≡ []
+  unfolding chosen shifted
+  chosen_none = refl
 
-    module _ (next : ℕ) where
-      pub chosen_removal : (t : ℕ) → (ops_from s at).ops ≡ op_at at (op.remove t) ∷ (ops_from s next).ops → chosen_from m base s at ≡ chosen_from m base s next
-      unfolding chosen_from chosen set_by
-      chosen_removal t e = rw (later_more base s at next (op.remove t) e)
+  module _ (os : List OpAt) where
+    pub chosen_other : (x : Operation) → ((p t : ℕ) (v : _) → x ≡ o.Set p t v → ⊥) → chosen_of m base (as_op x ∷ os) ≡ chosen_of m base os
+    unfolding chosen shifted set_by
+    chosen_other (o.Set p t v) never = absurd (never p t v refl)
+    chosen_other (o.Remove p t) never = refl
 
-      module _ (t : ℕ) (v : List ℕ) (e : (ops_from s at).ops ≡ op_at at (op.set (content t v)) ∷ (ops_from s next).ops) where
-        pub chosen_set : get_or m t 0 ≡ base + at + 2 → chosen_from m base s at ≡ content t v ∷ chosen_from m base s next
-        unfolding chosen_from chosen set_by
-        chosen_set k = rw (later_more base s at next (op.set (content t v)) e) (simp (eq-eqb _ _ k))
+    module _ (p t : ℕ) (v : List ℕ) where
+      pub chosen_set : get_or m t 0 ≡ base + p + 2 → chosen_of m base (op_at p (op.set (content t v)) ∷ os) ≡ content t v ∷ chosen_of m base os
+      unfolding chosen shifted set_by
+      chosen_set k = simp (eq-eqb _ _ k)
 
-        pub chosen_not : (get_or m t 0 ≡ base + at + 2 → ⊥) → chosen_from m base s at ≡ chosen_from m base s next
-        unfolding chosen_from chosen set_by
-        chosen_not k = rw (later_more base s at next (op.set (content t v)) e) (simp (ne_eqb _ _ k))
+      pub chosen_not : (get_or m t 0 ≡ base + p + 2 → ⊥) → chosen_of m base (op_at p (op.set (content t v)) ∷ os) ≡ chosen_of m base os
+      unfolding chosen shifted set_by
+      chosen_not k = simp (ne_eqb _ _ k)
+
+  -- they take no more bytes than the operations, which have a mark and a header each, and are no more than those
+  abbrev Within : (lo hi : ℕ) → List OpAt → Type 0
+  Within lo hi os = (lo + length (encode_all (chosen_of m base os)) ≤ hi) × (lo + length (chosen_of m base os) ≤ hi)
+
+  within_turn : (lo hi p : ℕ) (x : Op) (os : List OpAt) → lo ≤ p → Within (p + least x) hi os → Within lo hi (op_at p x ∷ os)
+  unfolding chosen shifted set_by
+  within_turn lo hi p (op.remove t) os l go = omega (arith, go)
+  within_turn lo hi p (op.set c) os l go =
+      by_test (eqb (get_or m c.ty 0) (base + p + 2))
+      (λ e.
+      let more = chosen_set os p c.ty c.value (eqb-true _ _ e) in
+      omega (arith, go, size_bound (length c.value), all_length c _ _ more, ap length more))
+      (λ e.
+      let skip = chosen_not os p c.ty c.value (eqb-false _ _ e) in
+      omega (arith, go, ap length skip, ap (λ cs. length (encode_all cs)) skip))
+
+  chosen_within : (lo hi : ℕ) (os : List OpAt) → Fit lo hi os → Within lo hi os
+  unfolding chosen shifted encode_all
+  chosen_within lo hi [] f = (omega arith, omega arith)
+  chosen_within lo hi (x ∷ os) f = within_turn lo hi x.place x.op os f.0 (chosen_within (x.place + least x.op) hi os f.1)
+
+  pub chosen_bound : (hi : ℕ) (os : List OpAt) → Fit 0 hi os → (length (encode_all (chosen_of m base os)) ≤ hi) × (length (chosen_of m base os) ≤ hi)
+  chosen_bound hi os f = omega (arith, chosen_within 0 hi os f)

@@ -5,12 +5,18 @@ use mathlib.Core.Bool.{Bool, true, false}
 use mathlib.Core.List.{List, [], ◌∷◌, ◌++◌, append_assoc}
 use Prim.Native.Nat.{ℕ, ◌+◌, ◌*◌, ◌≤◌}
 use native.Mathlib.Omega.{arith}
-use lib.ListN.{length, get_or, take, drop, length-append}
-use borrow.Author.Tests.{eq-eqb, ne_eqb}
-use Rattle.tlv.specs.Entries.{entry, Content, content, contents, Framing, framing}
+use lib.Dec.{eqb}
+use lib.ListN.{length, get_or, length-append}
+use borrow.Author.Tests.{eq-eqb, ne_eqb, eqb-true, eqb-false}
+use Rattle.refusal.specs.Every.{Every}
+use Rattle.laws.proofs.Tests.{by_test}
+use Rattle.laws.proofs.Parts.{every_map}
+use Rattle.tlv.specs.Entries.{Entry, Content, content, contents, framing}
 use Rattle.tlv_writing.specs.Encode.{encode, size_of, encode_all}
-use Rattle.tlv.proofs.Walks.{from, from_start}
-use Rattle.tlv_writing.proofs.Several.{encode_more, size_part}
+use Rattle.tlv.proofs.Walks.{framing_lies}
+use Rattle.tlv.proofs.Follows.{Follow, framing_follows, taken, framing_taken}
+use Rattle.tlv_writing.proofs.Encodes.{size_bound}
+use Rattle.tlv_writing.proofs.Round.{length_all}
 use Rattle.change_lists.specs.Operations.{encode_op}
 use Rattle.changes.specs.Loops.{spared, encode_set, encode_sets, extent_of}
 
@@ -46,36 +52,48 @@ sets_length (c ∷ cs) =
     let h = sets_length cs in
     simp length-append (omega arith)
 
--- one entry more, whose value is n bytes of s
-pub all_length : (s : List ℕ) (t a n : ℕ) (cs ds : List Content) → cs ≡ content t (take n (drop a s)) ∷ ds → a + n ≤ length s
-    → length (encode_all cs) ≡ size_of n + length (encode_all ds)
-all_length s t a n cs ds e h =
-    ap length (ap encode_all e ∙ encode_more (content t (take n (drop a s))) ds) ∙ length-append (encode t (take n (drop a s))) (encode_all ds)
-    ∙ ap (λ (x : ℕ). x + length (encode_all ds)) (size_part s t a n h)
+-- one entry more
+pub all_length : (c : Content) (cs ds : List Content) → cs ≡ c ∷ ds → length (encode_all cs) ≡ size_of (length c.value) + length (encode_all ds)
+all_length c cs ds e = ap length (ap encode_all e) ∙ length_all c ds
 
 pub extent_is : (b n : ℕ) (cs : List Content) → b ≡ length (encode_all cs) → n ≡ length cs → record { bytes = b; entries = n } ≡ extent_of cs
 extent_is b n cs e f = rw (e, f)
 
--- ---- the entries from a place on whose types have no mark
+-- ---- the entries whose types have no mark, one more at a time
 
-unfoldable pub spared_from : (marks : List ℕ) → List ℕ → ℕ → List Content
-spared_from m s at = spared m (contents (from s at).entries)
+abbrev pub spared_of : (marks : List ℕ) → List Entry → List Content
+spared_of m es = spared m (contents es)
 
-module _ (m s : List ℕ) where
-  pub spared_start : spared_from m s 0 ≡ spared m (contents (framing s).entries)
-  unfolding spared_from
-  spared_start = ap (λ (w : Framing). spared m (contents w.entries)) (from_start s)
+module _ (m : List ℕ) (e : Entry) (es : List Entry) where
+  pub spared_keep : get_or m e.ty 0 ≡ 0 → spared_of m (e ∷ es) ≡ content e.ty e.value ∷ spared_of m es
+  unfolding spared contents
+  spared_keep k = simp (eq-eqb _ _ k)
 
-  module _ (at : ℕ) where
-    pub spared_end : (from s at).entries ≡ [] → spared_from m s at ≡ []
-    unfolding spared_from spared contents
-    spared_end e = rw e
+  pub spared_skip : (get_or m e.ty 0 ≡ 0 → ⊥) → spared_of m (e ∷ es) ≡ spared_of m es
+  unfolding spared contents
+  spared_skip k = simp (ne_eqb _ _ k)
 
-    module _ (t a n : ℕ) (e : (from s at).entries ≡ entry at t a (take n (drop a s)) ∷ (from s (a + n)).entries) where
-      pub spared_keep : get_or m t 0 ≡ 0 → spared_from m s at ≡ content t (take n (drop a s)) ∷ spared_from m s (a + n)
-      unfolding spared_from spared contents
-      spared_keep k = rw e (simp (eq-eqb _ _ k))
+pub spared_none : (m : List ℕ) → spared_of m [] ≡ []
+unfolding spared contents
+spared_none m = refl
 
-      pub spared_skip : (get_or m t 0 ≡ 0 → ⊥) → spared_from m s at ≡ spared_from m s (a + n)
-      unfolding spared_from spared contents
-      spared_skip k = rw e (simp (ne_eqb _ _ k))
+-- they take at most twice the bytes that all take, since no header has more than four bytes where the old one has two; and each is one of them
+spared_within : (m : List ℕ) (at : ℕ) (es : List Entry) → Follow at es → Every (λ (e : Entry). e.place + 2 ≤ e.start) es
+    → (length (encode_all (spared_of m es)) ≤ 2 * taken es) × (length (spared_of m es) ≤ taken es)
+unfolding spared contents encode_all
+spared_within m at [] f h = (omega arith, omega arith)
+spared_within m at (e ∷ es) f h =
+    let go = spared_within m (e.start + length e.value) es f.2 h.1 in
+    by_test (eqb (get_or m e.ty 0) 0)
+    (λ t.
+    let keep = spared_keep m e es (eqb-true _ _ t) in
+    omega (arith, go, h.0, size_bound (length e.value), all_length (content e.ty e.value) _ _ keep, ap length keep))
+    (λ t.
+    let skip = spared_skip m e es (eqb-false _ _ t) in
+    omega (arith, go, h.0, ap length skip, ap (λ cs. length (encode_all cs)) skip))
+
+pub spared_bound : (m s : List ℕ)
+    → (length (encode_all (spared_of m (framing s).entries)) ≤ 2 * length s) × (length (spared_of m (framing s).entries) ≤ length s)
+spared_bound m s =
+    let within = spared_within m 0 (framing s).entries (framing_follows s) (every_map _ _ (λ e l. l.0) _ (framing_lies s)) in
+    omega (arith, within, framing_taken s)

@@ -1,22 +1,19 @@
 // Change lists: operations on a dataset, run one after the other and folded to one shortest list.
 #![tactic(auto)]
 
-ghost use Rattle.std.specs.Prelude.{◌≡◌, ℕ, ◌+◌, ◌*◌, ◌≤◌, length};
+ghost use Rattle.std.specs.Prelude.{◌≡◌, ◌+◌, ◌*◌, ◌≤◌, length};
 ghost use Rattle.refusal.specs.Sizes.{most_bytes, most_value};
-ghost use Rattle.refusal.specs.Output.{output, emit, written_answer, put};
-ghost use Rattle.refusal.specs.Answer.{then_do};
-ghost use Rattle.tlv.specs.Answers.{counted_answer};
+ghost use Rattle.refusal.specs.Output.{output, emit, put};
+ghost use Rattle.refusal.specs.Results.{answer_of};
 ghost use Rattle.tlv.specs.Entries.{content, contents, framing};
 ghost use Rattle.tlv_writing.specs.Encode.{encode_all};
-ghost use Rattle.change_lists.specs.Answers.{counted_ops_answer};
 ghost use Rattle.change_lists.specs.Operations.{encode_ops};
 ghost use Rattle.change_folds.specs.Run.{ran};
 ghost use Rattle.change_folds.specs.Fold.{folded, folded_two};
 ghost use Rattle.changes.specs.Loops.{ops_after, Marked, spared, chosen, gone_below, encode_set, encode_sets, extent_of, folded_extent, room_for};
 
-use change_lists::{CountedOps, OpFrame};
-use refusal::{Fault, Written};
-use tlv::{Counted, Frame};
+use change_lists::Operation;
+use refusal::{Fault, Refusal};
 
 // The bytes that some entries take as they are written, and their number.
 #[derive(Clone, Copy)]
@@ -32,22 +29,17 @@ fn mark(table: [usize; 256], list: &[u8], base: usize) -> [usize; 256]
     ensures { Marked result table (ops_after base list.now) }
 {
     let mut marks = table;
-    let mut at: usize = 0;
-    loop {
-        match change_lists::operation_at(list, at) {
-            OpFrame::Set { ty, start, len } => {
-                marks[ty as usize] = base + at + 2;
-                at = start + len;
-            }
-            OpFrame::Remove { ty } => {
-                marks[ty as usize] = 1;
-                at += 3;
-            }
-            _ => {
-                return marks;
-            }
+    for operation in change_lists::operations(list) {
+        match operation {
+            Operation::Set {
+                place,
+                ty,
+                value: _,
+            } => marks[ty as usize] = base + place + 2,
+            Operation::Remove { place: _, ty } => marks[ty as usize] = 1,
         }
     }
+    marks
 }
 
 // How many bytes the entries take whose types have no mark, and how many they are.
@@ -55,27 +47,15 @@ fn spared_extent(s: &[u8], marks: [usize; 256]) -> Extent
     requires { length s.now ≤ most_bytes }
     ensures { (result ≡ extent_of (spared marks (contents (framing s.now).entries))) × (result.bytes ≤ 2 * most_bytes) × (result.entries ≤ most_bytes) }
 {
-    let mut bytes: usize = 0;
-    let mut entries: usize = 0;
-    let mut at: usize = 0;
-    loop {
-        match tlv::frame_at(s, at) {
-            Frame::Entry { ty, start, len } => {
-                let end = start + len;
-                if marks[ty as usize] == 0 {
-                    bytes += tlv_writing::entry_size(len);
-                    entries += 1;
-                }
-                at = end;
-            }
-            _ => {
-                return Extent {
-                    bytes: bytes,
-                    entries: entries,
-                };
-            }
+    let mut bytes = 0;
+    let mut entries = 0;
+    for entry in tlv::entries(s) {
+        if marks[entry.ty as usize] == 0 {
+            bytes += tlv_writing::entry_size(entry.value.len());
+            entries += 1;
         }
     }
+    Extent { bytes, entries }
 }
 
 // How many bytes the entries of the sets take whose own marks stand at their types, and how many they are.
@@ -83,30 +63,17 @@ fn chosen_extent(list: &[u8], marks: [usize; 256], base: usize) -> Extent
     requires { (length list.now ≤ most_bytes) × (base ≤ most_bytes) }
     ensures { (result ≡ extent_of (chosen marks (ops_after base list.now))) × (result.bytes ≤ most_bytes) × (result.entries ≤ most_bytes) }
 {
-    let mut bytes: usize = 0;
-    let mut entries: usize = 0;
-    let mut at: usize = 0;
-    loop {
-        match change_lists::operation_at(list, at) {
-            OpFrame::Set { ty, start, len } => {
-                let end = start + len;
-                if marks[ty as usize] == base + at + 2 {
-                    bytes += tlv_writing::entry_size(len);
-                    entries += 1;
-                }
-                at = end;
-            }
-            OpFrame::Remove { ty: _ } => {
-                at += 3;
-            }
-            _ => {
-                return Extent {
-                    bytes: bytes,
-                    entries: entries,
-                };
+    let mut bytes = 0;
+    let mut entries = 0;
+    for operation in change_lists::operations(list) {
+        if let Operation::Set { place, ty, value } = operation {
+            if marks[ty as usize] == base + place + 2 {
+                bytes += tlv_writing::entry_size(value.len());
+                entries += 1;
             }
         }
     }
+    Extent { bytes, entries }
 }
 
 // An entry into out from at on, after the mark of a set where that is asked for; the place after it.
@@ -127,22 +94,13 @@ fn put_spared(s: &[u8], marks: [usize; 256], out: &mut [u8]) -> usize
     requires { (length s.now ≤ most_bytes) × (length (encode_all (spared marks (contents (framing s.now).entries))) ≤ length out.old) }
     ensures { (result ≡ length (encode_all (spared marks (contents (framing s.now).entries)))) × (out.new ≡ put out.old 0 (encode_all (spared marks (contents (framing s.now).entries)))) }
 {
-    let mut to: usize = 0;
-    let mut at: usize = 0;
-    loop {
-        match tlv::frame_at(s, at) {
-            Frame::Entry { ty, start, len } => {
-                let end = start + len;
-                if marks[ty as usize] == 0 {
-                    to = tlv_writing::put_entry(ty, &s[start..end], out, to);
-                }
-                at = end;
-            }
-            _ => {
-                return to;
-            }
+    let mut to = 0;
+    for entry in tlv::entries(s) {
+        if marks[entry.ty as usize] == 0 {
+            to = tlv_writing::put_entry(entry.ty, entry.value, out, to);
         }
     }
+    to
 }
 
 // The entries of the sets whose own marks stand at their types, from a place of out on; the place after them.
@@ -158,38 +116,25 @@ fn put_chosen(
     ensures { (result ≡ from + length (encode_sets marked (chosen marks (ops_after base list.now)))) × (out.new ≡ put out.old from (encode_sets marked (chosen marks (ops_after base list.now)))) }
 {
     let mut to = from;
-    let mut at: usize = 0;
-    loop {
-        match change_lists::operation_at(list, at) {
-            OpFrame::Set { ty, start, len } => {
-                let end = start + len;
-                if marks[ty as usize] == base + at + 2 {
-                    to = put_set(ty, &list[start..end], marked, out, to);
-                }
-                at = end;
-            }
-            OpFrame::Remove { ty: _ } => {
-                at += 3;
-            }
-            _ => {
-                return to;
+    for operation in change_lists::operations(list) {
+        if let Operation::Set { place, ty, value } = operation {
+            if marks[ty as usize] == base + place + 2 {
+                to = put_set(ty, value, marked, out, to);
             }
         }
     }
+    to
 }
 
 // How many types have a removal for their last operation.
 fn count_removals(marks: [usize; 256]) -> usize
     ensures { (result ≡ length (gone_below 256 marks)) × (result ≤ 256) }
 {
-    let mut n: usize = 0;
-    let mut t: usize = 0;
-    while t < 256 {
-        let next = t + 1;
+    let mut n = 0;
+    for t in 0..256 {
         if marks[t] == 1 {
             n += 1;
         }
-        t = next;
     }
     n
 }
@@ -199,25 +144,22 @@ fn put_removals(marks: [usize; 256], out: &mut [u8]) -> usize
     requires { 3 * length (gone_below 256 marks) ≤ length out.old }
     ensures { (result ≡ length (encode_ops (gone_below 256 marks))) × (out.new ≡ put out.old 0 (encode_ops (gone_below 256 marks))) }
 {
-    let mut to: usize = 0;
-    let mut t: usize = 0;
-    while t < 256 {
-        let next = t + 1;
+    let mut to = 0;
+    for t in 0..256 {
         if marks[t] == 1 {
             out[to] = 0x52;
             out[to + 1] = 0x4D;
             out[to + 2] = t as u8;
             to += 3;
         }
-        t = next;
     }
     to
 }
 
 // Whether a result of so many bytes and entries or operations is within the sizes, and then whether it has room: 10, 11.
 #[tactic(auto, unfolding(crate::specs::Loops::room_for))]
-fn room_for(bytes: usize, entries: usize, room: usize) -> Written
-    ensures { written_answer result ≡ room_for bytes entries room }
+fn room_for(bytes: usize, entries: usize, room: usize) -> Result<usize, Refusal>
+    ensures { answer_of result ≡ room_for bytes entries room }
 {
     let over = (bytes > refusal::MAX_BYTES) | (entries > refusal::MAX_ENTRIES);
     let short = bytes > room;
@@ -227,55 +169,24 @@ fn room_for(bytes: usize, entries: usize, room: usize) -> Written
     if short {
         return refusal::refuse(Fault::NoRoom, 0);
     }
-    Written::Bytes(bytes)
-}
-
-// The count of a list's operations, as that of a dataset's entries is told.
-fn as_count(c: CountedOps) -> Counted
-    ensures { counted_answer result ≡ counted_ops_answer c }
-{
-    match c {
-        CountedOps::Operations(n) => Counted::Entries(n),
-        CountedOps::Refused(r) => Counted::Refused(r),
-    }
-}
-
-// For two inputs all faults of the first come first.
-fn first_fault(first: Counted, second: Counted) -> Counted
-    ensures { counted_answer result ≡ then_do (counted_answer first) (λ (n : ℕ). counted_answer second) }
-{
-    match first {
-        Counted::Entries(_) => second,
-        Counted::Refused(r) => Counted::Refused(r),
-    }
+    Ok(bytes)
 }
 
 // The dataset's entries after the operations of the list, sizes tested once, at the end. Refusals: 1, 2, 3 of the dataset, 1, 9, 3 of
 // the list, 10, 11.
-pub fn run(dataset: &[u8], list: &[u8], out: &mut [u8]) -> Written
-    ensures { output (written_answer result) out.new ≡ emit (ran dataset.now list.now) out.old }
+pub fn run(dataset: &[u8], list: &[u8], out: &mut [u8]) -> Result<usize, Refusal>
+    ensures { output (answer_of result) out.new ≡ emit (ran dataset.now list.now) out.old }
 {
-    let entries = tlv::count_entries(dataset, 0);
-    let operations = as_count(change_lists::count_operations(list, 1));
-    match first_fault(entries, operations) {
-        Counted::Refused(r) => {
-            return Written::Refused(r);
-        }
-        Counted::Entries(_) => {}
-    }
+    tlv::count_entries(dataset, 0)?;
+    change_lists::count_operations(list, 1)?;
     let marks = mark([0usize; 256], list, 0);
     let spared = spared_extent(dataset, marks);
     let chosen = chosen_extent(list, marks, 0);
     let need = spared.bytes + chosen.bytes;
     let number = spared.entries + chosen.entries;
-    match room_for(need, number, out.len()) {
-        Written::Refused(r) => {
-            return Written::Refused(r);
-        }
-        Written::Bytes(_) => {}
-    }
+    room_for(need, number, out.len())?;
     let to = put_spared(dataset, marks, out);
-    Written::Bytes(put_chosen(list, marks, 0, false, out, to))
+    Ok(put_chosen(list, marks, 0, false, out, to))
 }
 
 // The bytes that the folded list takes, and its number of operations.
@@ -295,38 +206,23 @@ fn folded_extent(first: &[u8], second: &[u8], marks: [usize; 256]) -> Extent
 
 // One list that does what the first does and then the second, each type's last operation only. Refusals: 1, 9, 3 of the first, then
 // of the second, 10, 11.
-pub fn fold_two(first: &[u8], second: &[u8], out: &mut [u8]) -> Written
-    ensures { output (written_answer result) out.new ≡ emit (folded_two first.now second.now) out.old }
+pub fn fold_two(first: &[u8], second: &[u8], out: &mut [u8]) -> Result<usize, Refusal>
+    ensures { output (answer_of result) out.new ≡ emit (folded_two first.now second.now) out.old }
 {
-    match change_lists::count_operations(first, 0) {
-        CountedOps::Refused(r) => {
-            return Written::Refused(r);
-        }
-        CountedOps::Operations(_) => {}
-    }
-    match change_lists::count_operations(second, 1) {
-        CountedOps::Refused(r) => {
-            return Written::Refused(r);
-        }
-        CountedOps::Operations(_) => {}
-    }
+    change_lists::count_operations(first, 0)?;
+    change_lists::count_operations(second, 1)?;
     let base = first.len();
     let marks = mark(mark([0usize; 256], first, 0), second, base);
     let extent = folded_extent(first, second, marks);
-    match room_for(extent.bytes, extent.entries, out.len()) {
-        Written::Refused(r) => {
-            return Written::Refused(r);
-        }
-        Written::Bytes(_) => {}
-    }
+    room_for(extent.bytes, extent.entries, out.len())?;
     let sets = put_removals(marks, out);
     let more = put_chosen(first, marks, 0, true, out, sets);
-    Written::Bytes(put_chosen(second, marks, base, true, out, more))
+    Ok(put_chosen(second, marks, base, true, out, more))
 }
 
 // The list with each type's last operation only: removals first, types ascending, then sets in their order. Refusals: 1, 9, 3, 11.
-pub fn fold(list: &[u8], out: &mut [u8]) -> Written
-    ensures { output (written_answer result) out.new ≡ emit (folded list.now) out.old }
+pub fn fold(list: &[u8], out: &mut [u8]) -> Result<usize, Refusal>
+    ensures { output (answer_of result) out.new ≡ emit (folded list.now) out.old }
 {
     fold_two(list, &list[0..0], out)
 }

@@ -2,12 +2,9 @@
 -- Assumes nothing.
 use Rattle.std.specs.Prelude.{ℕ, zero, suc, ◌+◌, List, [], ◌∷◌, length, take, drop, get_or, ltb, leb}
 use Rattle.refusal.specs.Sizes.{most_bytes}
-use Rattle.refusal.specs.Answer.{pick, Answer, given, absent, refused, on_given}
-use Rattle.refusal.specs.Number.{refusal_answer}
+use Rattle.refusal.specs.Answer.{pick, Answer, given, refused, on_given}
 use Rattle.channel_masks.specs.declared.MaskItem.{MaskItem}
 use Rattle.channel_masks.specs.declared.MaskItem.TheVariants as i
-use Rattle.channel_masks.specs.declared.ReadMask.{ReadMask}
-use Rattle.channel_masks.specs.declared.ReadMask.TheVariants as m
 
 -- an item
 pub record Masked : Type 0 where
@@ -28,11 +25,6 @@ items_in (suc k) place (p ∷ n ∷ rest) =
 -- each takes at least 2 bytes, so that a step for each byte is enough
 unfoldable pub items : (place : ℕ) → List ℕ → Answer (List Masked)
 items place v = pick (ltb most_bytes (length v)) (refused 1 0 0) (items_in (length v) place v)
-
-abbrev pub mask_answer : ReadMask → Answer ℕ
-mask_answer (m.Items n) = given n
-mask_answer m.Absent = absent
-mask_answer (m.Refused r) = refusal_answer r
 
 -- what stands at a place of a value, by places: the code's own language. `items_step` (proofs/Items.antt): it is what `items_in` finds there
 unfoldable pub item_at : List ℕ → ℕ → MaskItem

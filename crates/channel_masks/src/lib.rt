@@ -3,10 +3,11 @@
 
 ghost use Rattle.std.specs.Prelude.{◌≡◌, length};
 ghost use Rattle.refusal.specs.Answer.{on_given};
-ghost use Rattle.refusal.specs.Output.{output, emit, written_answer};
-ghost use Rattle.channel_masks.specs.Mask.{items, item_at, item_written, mask_answer};
+ghost use Rattle.refusal.specs.Output.{output, emit};
+ghost use Rattle.refusal.specs.Results.{answer_of};
+ghost use Rattle.channel_masks.specs.Mask.{items, item_at, item_written};
 
-use refusal::{Fault, Refusal, Written};
+use refusal::{Fault, Refusal};
 
 // What stands at a place of a channel mask: an item, whose bytes are the len bytes from start on; one that is cut short; or nothing.
 #[derive(Clone, Copy)]
@@ -14,14 +15,6 @@ pub enum MaskItem {
     Item { page: u8, start: usize, len: usize },
     Cut,
     End,
-}
-
-// How many items a channel mask has.
-#[derive(Clone, Copy)]
-pub enum ReadMask {
-    Items(usize),
-    Absent,
-    Refused(Refusal),
 }
 
 // What stands at a place of a channel mask: the step of a walk over its items.
@@ -40,22 +33,18 @@ pub fn mask_item_at(value: &[u8], at: usize) -> MaskItem
         return MaskItem::Item {
             page: value[at],
             start: at + 2,
-            len: len,
+            len,
         };
     }
     MaskItem::Cut
 }
 
 // How many items a channel mask has. Refusals: 1, then 5 at the place of its entry, which is 0 for a bare value.
-pub fn count_mask_items(value: &[u8], place: usize) -> ReadMask
-    ensures { mask_answer result ≡ on_given length (items place value.now) }
+pub fn count_mask_items(value: &[u8], place: usize) -> Result<usize, Refusal>
+    ensures { answer_of result ≡ on_given length (items place value.now) }
 {
     if value.len() > refusal::MAX_BYTES {
-        return ReadMask::Refused(Refusal {
-            fault: Fault::TooLarge,
-            place: 0,
-            input: 0,
-        });
+        return refusal::refuse(Fault::TooLarge, 0);
     }
     let mut n: usize = 0;
     let mut at: usize = 0;
@@ -70,39 +59,30 @@ pub fn count_mask_items(value: &[u8], place: usize) -> ReadMask
                 at = start + len;
             }
             MaskItem::Cut => {
-                return ReadMask::Refused(Refusal {
-                    fault: Fault::ItemCut,
-                    place: place,
-                    input: 0,
-                });
+                return refusal::refuse(Fault::ItemCut, place);
             }
             MaskItem::End => {
-                return ReadMask::Items(n);
+                return Ok(n);
             }
         }
     }
 }
 
+// The most bytes of an item: its length has one byte.
+const MAX_MASK: usize = 255;
+
 // One item of a channel mask at the start of out. Refusals: 13, 11.
-pub fn write_mask_item(page: u8, mask: &[u8], out: &mut [u8]) -> Written
-    ensures { output (written_answer result) out.new ≡ emit (item_written page mask.now) out.old }
+pub fn write_mask_item(page: u8, mask: &[u8], out: &mut [u8]) -> Result<usize, Refusal>
+    ensures { output (answer_of result) out.new ≡ emit (item_written page mask.now) out.old }
 {
     let n = mask.len();
-    if n > 255 {
-        return Written::Refused(Refusal {
-            fault: Fault::ValueTooLong,
-            place: 0,
-            input: 0,
-        });
+    if n > MAX_MASK {
+        return refusal::refuse(Fault::ValueTooLong, 0);
     }
     if n + 2 > out.len() {
-        return Written::Refused(Refusal {
-            fault: Fault::NoRoom,
-            place: 0,
-            input: 0,
-        });
+        return refusal::refuse(Fault::NoRoom, 0);
     }
     out[0] = page;
     out[1] = n as u8;
-    Written::Bytes(copying::put_bytes(mask, out, 2))
+    Ok(copying::put_bytes(mask, out, 2))
 }

@@ -1,3 +1,2 @@
-pub mod From
 pub mod Answers
 pub mod Loops

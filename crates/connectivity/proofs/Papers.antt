@@ -1,12 +1,14 @@
 -- The meaning of the code's answer tells it apart, so that a contract on the meaning determines the answer.
 -- Assumes nothing.
-use mathlib.Core.Path.{◌≡◌, refl, ap}
-use Rattle.refusal.proofs.Papers.{Tells, tells, refusal_back, code_of}
-use Rattle.diag_values.proofs.Papers.{u8_of, u8_back, u16_of, u16_back}
+use mathlib.Core.Path.{◌≡◌}
+use Rattle.std.specs.Prelude.{Result}
+use Rattle.refusal.specs.Answer.{on_given}
+use Rattle.refusal.specs.Results.{answer_of}
+use Rattle.refusal.specs.declared.Refusal.{Refusal}
+use Rattle.refusal.proofs.Papers.{Tells, answer_paper_tells, maybe_of, option_back}
 use Rattle.connectivity.specs.Connectivity.{ConnectivityValue}
-use Rattle.connectivity.specs.Answers.{connectivity_paper, connectivity_answer}
+use Rattle.connectivity.specs.Answers.{connectivity_paper}
 use Rattle.connectivity.specs.declared.Connectivity.{Connectivity}
-use Rattle.connectivity.specs.declared.ReadConnectivity.TheVariants as y
 
 abbrev pub connectivity_from : ConnectivityValue → Connectivity
 connectivity_from x = record {
@@ -17,14 +19,12 @@ connectivity_from x = record {
   leader_cost = x.leader_cost;
   id_sequence = x.id_sequence;
   active_routers = x.active_routers;
-  rx_off_child_buffer_size = u16_of x.buffer_size;
-  rx_off_child_datagram_count = u8_of x.datagram_count;
+  rx_off_child_buffer_size = maybe_of x.buffer_size;
+  rx_off_child_datagram_count = maybe_of x.datagram_count;
 }
 
 pub connectivity_back : (x : Connectivity) → connectivity_from (connectivity_paper x) ≡ x
-connectivity_back x = simp (u16_back, u8_back)
+connectivity_back x = simp option_back
 
-pub connectivity_tells : Tells connectivity_answer
-connectivity_tells =
-    tells connectivity_answer (code_of (λ (x : ConnectivityValue). y.Value (connectivity_from x)) y.Absent y.Refused)
-    (elim [ y.Value x ↦ ap y.Value (connectivity_back x) | y.Absent ↦ refl | y.Refused x ↦ ap y.Refused (refusal_back x) ])
+pub connectivity_tells : Tells (λ (x : Result Connectivity Refusal). on_given connectivity_paper (answer_of x))
+connectivity_tells = answer_paper_tells connectivity_paper connectivity_from connectivity_back

@@ -3,13 +3,11 @@
 
 ghost use Rattle.std.specs.Prelude.{◌≡◌, ◌≤◌, length};
 ghost use Rattle.refusal.specs.Answer.{on_given};
+ghost use Rattle.refusal.specs.Results.{answer_of, option_of};
 ghost use Rattle.diag_rules.specs.Rule.{value_of};
-ghost use Rattle.diag_values.specs.Answers.{opt_answer8, opt_answer16};
 ghost use Rattle.connectivity.specs.Connectivity.{priority_of, buffer_of, datagrams_of, connectivity_of};
-ghost use Rattle.connectivity.specs.Answers.{connectivity_paper, connectivity_answer};
+ghost use Rattle.connectivity.specs.Answers.{connectivity_paper};
 
-use diag_rules::Judged;
-use diag_values::{OptU8, OptU16};
 use refusal::Refusal;
 
 // The priority is 1 high, 0 medium, -1 low, -2 reserved.
@@ -22,16 +20,8 @@ pub struct Connectivity {
     pub leader_cost: u8,
     pub id_sequence: u8,
     pub active_routers: u8,
-    pub rx_off_child_buffer_size: OptU16,
-    pub rx_off_child_datagram_count: OptU8,
-}
-
-// A value that was read. `Absent` is for queries that find no value to read.
-#[derive(Clone, Copy)]
-pub enum ReadConnectivity {
-    Value(Connectivity),
-    Absent,
-    Refused(Refusal),
+    pub rx_off_child_buffer_size: Option<u16>,
+    pub rx_off_child_datagram_count: Option<u8>,
 }
 
 // The top two bits of the first byte as a priority.
@@ -47,51 +37,45 @@ fn priority(b: u8) -> i8
 }
 
 // The two late fields.
-fn buffer_size(v: &[u8]) -> OptU16
-    ensures { opt_answer16 result ≡ buffer_of v.now }
+fn buffer_size(v: &[u8]) -> Option<u16>
+    ensures { option_of result ≡ buffer_of v.now }
 {
     if v.len() < 10 {
-        return OptU16::None;
+        return None;
     }
-    let size = (v[7] as u16) * 256 + v[8] as u16;
-    OptU16::Some(size)
+    Some(u16::from_be_bytes([v[7], v[8]]))
 }
 
-fn datagram_count(v: &[u8]) -> OptU8
-    ensures { opt_answer8 result ≡ datagrams_of v.now }
+fn datagram_count(v: &[u8]) -> Option<u8>
+    ensures { option_of result ≡ datagrams_of v.now }
 {
     if v.len() < 10 {
-        return OptU8::None;
+        return None;
     }
-    OptU8::Some(v[9])
+    Some(v[9])
 }
 
 fn connectivity_of(v: &[u8]) -> Connectivity
     requires { 7 ≤ length v.now }
     ensures { connectivity_paper result ≡ connectivity_of v.now }
 {
-    let size = buffer_size(v);
-    let count = datagram_count(v);
-    let first = priority(v[0]);
     Connectivity {
-        parent_priority: first,
+        parent_priority: priority(v[0]),
         link_quality_3: v[1],
         link_quality_2: v[2],
         link_quality_1: v[3],
         leader_cost: v[4],
         id_sequence: v[5],
         active_routers: v[6],
-        rx_off_child_buffer_size: size,
-        rx_off_child_datagram_count: count,
+        rx_off_child_buffer_size: buffer_size(v),
+        rx_off_child_datagram_count: datagram_count(v),
     }
 }
 
 // Refusals: those of `diag_rules::check_value`.
-pub fn decode_connectivity(value: &[u8], place: usize) -> ReadConnectivity
-    ensures { connectivity_answer result ≡ on_given connectivity_of (value_of 4 place value.now) }
+pub fn decode_connectivity(value: &[u8], place: usize) -> Result<Connectivity, Refusal>
+    ensures { on_given connectivity_paper (answer_of result) ≡ on_given connectivity_of (value_of 4 place value.now) }
 {
-    match diag_rules::check_value(diag_rules::CONNECTIVITY, value, place) {
-        Judged::Kept => ReadConnectivity::Value(connectivity_of(value)),
-        Judged::Refused(r) => ReadConnectivity::Refused(r),
-    }
+    diag_rules::check_value(diag_rules::CONNECTIVITY, value, place)?;
+    Ok(connectivity_of(value))
 }

@@ -2,46 +2,37 @@
 #![tactic(auto)]
 
 ghost use Rattle.std.specs.Prelude.{◌≡◌};
-ghost use Rattle.refusal.specs.Output.{output, emit, written_answer};
+ghost use Rattle.refusal.specs.Output.{output, emit};
+ghost use Rattle.refusal.specs.Results.{answer_of};
 ghost use Rattle.dataset_hex.specs.Hex.{hex_of, well_framed, from_hex};
 
-use refusal::{Fault, Written};
-use tlv::Counted;
+use refusal::{Fault, Refusal};
 
 // Written afresh, as hex text in lower case: 1, 2, 3, 11.
-pub fn to_hex(s: &[u8], out: &mut [u8]) -> Written
-    ensures { output (written_answer result) out.new ≡ emit (hex_of s.now) out.old }
+pub fn to_hex(s: &[u8], out: &mut [u8]) -> Result<usize, Refusal>
+    ensures { output (answer_of result) out.new ≡ emit (hex_of s.now) out.old }
 {
     let mut bytes = [0u8; refusal::MAX_BYTES];
-    match tlv_rewriting::rewrite(s, &mut bytes) {
-        Written::Refused(r) => Written::Refused(r),
-        Written::Bytes(n) => hex_text::encode(&bytes[0..n], out),
-    }
+    let n = tlv_rewriting::rewrite(s, &mut bytes)?;
+    hex_text::encode(&bytes[0..n], out)
 }
 
 // The bytes of a dataset in hex text, as decoded: 1, 7, 8, 2, 3, 11.
-pub fn from_hex(text: &[u8], out: &mut [u8]) -> Written
-    ensures { output (written_answer result) out.new ≡ emit (from_hex text.now) out.old }
+pub fn from_hex(text: &[u8], out: &mut [u8]) -> Result<usize, Refusal>
+    ensures { output (answer_of result) out.new ≡ emit (from_hex text.now) out.old }
 {
     let mut bytes = [0u8; refusal::MAX_BYTES];
-    match base16::decode(text, &mut bytes) {
-        Written::Refused(why) => Written::Refused(why),
-        Written::Bytes(n) => framed_copy(&bytes[0..n], out),
-    }
+    let n = base16::decode(text, &mut bytes)?;
+    framed_copy(&bytes[0..n], out)
 }
 
 // A dataset's bytes as they are, at the start of out, where they are well-formed.
-fn framed_copy(s: &[u8], out: &mut [u8]) -> Written
-    ensures { output (written_answer result) out.new ≡ emit (well_framed s.now) out.old }
+fn framed_copy(s: &[u8], out: &mut [u8]) -> Result<usize, Refusal>
+    ensures { output (answer_of result) out.new ≡ emit (well_framed s.now) out.old }
 {
-    match tlv::count_entries(s, 0) {
-        Counted::Refused(r) => {
-            return Written::Refused(r);
-        }
-        Counted::Entries(_) => {}
-    }
+    tlv::count_entries(s, 0)?;
     if s.len() > out.len() {
         return refusal::refuse(Fault::NoRoom, 0);
     }
-    Written::Bytes(copying::put_bytes(s, out, 0))
+    Ok(copying::put_bytes(s, out, 0))
 }

@@ -3,4 +3,3 @@ pub mod Tables
 pub mod Loads
 pub mod Queries
 pub mod Meaning
-pub mod Papers

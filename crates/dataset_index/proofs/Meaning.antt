@@ -18,7 +18,8 @@ use Rattle.tlv.specs.Entries.{First, none, cut, one, first, Entry, clean, framin
 use Rattle.tlv.specs.Limits.{place_of_next, limited, framed}
 use Rattle.tlv.specs.Answers.{header_of}
 use Rattle.tlv.proofs.Follows.{Beside, framing_follows, headers_beside, headers_take, whole_length}
-use Rattle.tlv_last.specs.Last.{Spot, spot_at, spot, last_of, last_entry, last_spot, last_value}
+use Rattle.tlv_last.specs.Last.{spot_at, spot, last_of, last_entry, last_spot, last_value}
+use Rattle.tlv_last.specs.declared.Spot.{Spot}
 use Rattle.tlv_last.proofs.Lasts.{found_all, spot_part, spot_none}
 use Rattle.dataset_index.specs.Index.{how_many, place_or0, last_place, slots, index_bytes, built, loaded}
 use Rattle.dataset_index.specs.Query.{count_in, place_in, is_framed, spot_in, by_index, part_or, value_by_index}

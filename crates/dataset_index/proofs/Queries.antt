@@ -3,9 +3,6 @@
 use mathlib.Core.Path.{◌≡◌, refl, sym, ap, ◌∙◌}
 use mathlib.Core.Bool.{true, false}
 use mathlib.Core.List.{List, [], ◌∷◌}
-use mathlib.Core.Logic.{⊎_elim}
-use types.Run.{OneOf}
-use denote.Enum.Declared.{tag_of}
 use Prim.Native.Nat.{ℕ, zero, suc, ◌+◌, ◌-◌, ◌*◌, ◌≤◌, ◌<◌}
 use native.Mathlib.Omega.{arith}
 use lib.ListN.{length, get_or, take, drop}
@@ -23,14 +20,15 @@ use Rattle.tlv.specs.Place.{frame_at}
 use Rattle.tlv.specs.Limits.{framed}
 use Rattle.tlv.specs.declared.Frame.{Frame}
 use Rattle.tlv.specs.declared.Frame.TheVariants as f
-use Rattle.tlv.specs.contracts.Frame
 use Rattle.tlv.proofs.Walks.{Agree, frame_agrees, Inside, inside, Lies, framing_lies}
 use Rattle.tlv.proofs.Whole.{framed_whole}
-use Rattle.tlv_last.specs.Last.{Spot, spot_at, spot, last_of}
+use Rattle.tlv_last.specs.Last.{spot_at, spot, last_of}
+use Rattle.tlv_last.specs.declared.Spot.{Spot}
 use Rattle.tlv_last.proofs.Lasts.{Other, over_others, absent_none, last_holds}
 use Rattle.dataset_index.specs.Index.{how_many, place_or0, last_place, slots, index_bytes, index_size}
 use Rattle.dataset_index.specs.Query.{count_in, place_in, is_framed, spot_in, by_index, part_or, value_by_index}
 use Rattle.dataset_index.proofs.Slots.{index_length}
+use Rattle.dataset_index.proofs.Tables.{many_few}
 
 -- the length of a value, by its place
 value_length : (s : List ℕ) (at t a n t' h : ℕ) (v r : List ℕ) → Agree s at (f.Entry t a n) (one t' h v r) → a + n ≤ length s → length v ≡ n
@@ -133,13 +131,6 @@ counted_none ty [] h = refl
 counted_none ty (e ∷ es) h = rw (ne_eqb e.ty ty h.0) (counted_none ty es h.1)
 
 -- ---- counts and places fit two bytes, whatever the sizes are that a dataset may have, while these are below 65,536
-many_few : (ty : ℕ) (es : List Entry) → how_many ty es ≤ length es
-unfolding how_many
-many_few ty [] = omega arith
-many_few ty (e ∷ es) =
-    let h = many_few ty es in
-    by_test (eqb e.ty ty) (λ t. simp t (omega arith)) (λ t. simp t (omega arith))
-
 place_near : (ty : ℕ) (s : List ℕ) (es : List Entry) → Every (Lies s) es → place_or0 (last_of ty absent es) ≤ length s
 place_near ty s es h =
     last_holds (λ (x : Answer Entry). place_or0 x ≤ length s) ty absent es (omega arith) (every_map _ _ (λ e lies t. omega (arith, lies)) es h)
@@ -219,16 +210,23 @@ module _ (ty p : ℕ) (s : List ℕ) (r : Frame) (found : r ≡ frame_at s p) wh
     pub entry_miss : (t ≡ ty → ⊥) → refused 17 0 1 ≡ spot_in ty p (first (drop p s))
     entry_miss h = sym (stood ∙ simp (ne_eqb _ _ h))
 
-  none_by : (g : Frame) (x : First) → OneOf (1 ∷ 2 ∷ []) (tag_of Frame.the_type g) → Agree s p g x → refused 17 0 1 ≡ spot_in ty p x
+  cut_by : (x : First) → Agree s p f.Cut x → refused 17 0 1 ≡ spot_in ty p x
   unfolding spot_in
-  none_by g none k a = refl
-  none_by g cut k a = refl
-  none_by f.End (one t h v rest) k a = absurd a
-  none_by f.Cut (one t h v rest) k a = absurd a
-  none_by (f.Entry t b n) (one t' h v rest) k a = ⊎_elim (λ e. absurd (omega arith)) (λ e. absurd (omega arith)) k
+  cut_by none a = refl
+  cut_by cut a = refl
+  cut_by (one t h v rest) a = absurd a
 
-  pub entry_none : OneOf (1 ∷ 2 ∷ []) (tag_of Frame.the_type r) → refused 17 0 1 ≡ spot_in ty p (first (drop p s))
-  entry_none k = none_by r (first (drop p s)) k agreed
+  end_by : (x : First) → Agree s p f.End x → refused 17 0 1 ≡ spot_in ty p x
+  unfolding spot_in
+  end_by none a = refl
+  end_by cut a = refl
+  end_by (one t h v rest) a = absurd a
+
+  pub entry_cut : r ≡ f.Cut → refused 17 0 1 ≡ spot_in ty p (first (drop p s))
+  entry_cut e = cut_by (first (drop p s)) (rw e at agreed)
+
+  pub entry_end : r ≡ f.End → refused 17 0 1 ≡ spot_in ty p (first (drop p s))
+  entry_end e = end_by (first (drop p s)) (rw e at agreed)
 
 -- an index that is framed or is not,
 module _ (x : List ℕ) where

@@ -1,4 +1,3 @@
 pub mod Index
 pub mod Query
-pub mod Answers
 pub mod Loops

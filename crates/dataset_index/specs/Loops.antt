@@ -1,8 +1,6 @@
 -- What the private functions promise: no public contract cites it.
 -- Assumes nothing.
 use Rattle.std.specs.Prelude.{◌≡◌, ℕ, zero, suc, ◌<◌, List, [], ◌++◌, get_or}
-use Rattle.refusal.specs.declared.Fault.TheVariants.{WrongIndex}
-use Rattle.refusal.specs.declared.Refusal.{Refusal}
 use Rattle.wire_bytes.specs.Bytes.{bytes_of}
 use Rattle.tlv.specs.Entries.{framing}
 use Rattle.dataset_index.specs.Index.{how_many, last_place}
@@ -17,7 +15,3 @@ pub record Indexed (x : Table) (s : List ℕ) : Type 0 where
 unfoldable pub slots_in : (count place : List ℕ) → (t n : ℕ) → List ℕ
 slots_in c p t zero = []
 slots_in c p t (suc n) = bytes_of 2 (get_or c t 0) ++ (bytes_of 2 (get_or p t 0) ++ slots_in c p (suc t) n)
-
--- 17, place 0 of the second input
-abbrev pub wrong_index : Refusal
-wrong_index = record { fault = WrongIndex; place = 0; input = 1 }

@@ -6,7 +6,8 @@ use Rattle.std.specs.Prelude.{Bool, false, ℕ, ◌+◌, ◌*◌, List, [], leng
 use Rattle.refusal.specs.Sizes.{most_bytes}
 use Rattle.refusal.specs.Answer.{pick, Answer, given, absent, refused}
 use Rattle.tlv.specs.Entries.{First, none, cut, one, first}
-use Rattle.tlv_last.specs.Last.{Spot, spot_at}
+use Rattle.tlv_last.specs.Last.{spot_at}
+use Rattle.tlv_last.specs.declared.Spot.{Spot}
 use Rattle.dataset_index.specs.Index.{index_size}
 
 -- the number that two bytes from k on spell

@@ -3,35 +3,22 @@
 -- Assumes nothing.
 use mathlib.Core.Path.{◌≡◌, refl, sym, ap, ◌∙◌}
 use mathlib.Core.Bool.{Bool, true, false}
-use mathlib.Core.List.{List, [], ◌∷◌}
-use mathlib.Core.Logic.{⊎_elim}
+use mathlib.Core.List.{List, []}
 use Prim.Native.Nat.{ℕ, ◌+◌, ◌≤◌}
 use native.Mathlib.Omega.{arith}
 use lib.ListN.{length, take, drop}
-use types.Run.{OneOf}
-use denote.Enum.Declared.{tag_of}
 use Rattle.refusal.specs.Answer.{Answer, given, absent, refused, then_do, on_given}
-use Rattle.refusal.specs.Number.{refusal_answer}
-use Rattle.refusal.specs.declared.Refusal.{Refusal}
-use Rattle.tlv.specs.Entries.{Entry, entry}
-use Rattle.tlv_last.specs.Last.{last_entry, Spot, spot_at, spot, last_spot, value_or, last_value}
-use Rattle.tlv_last.specs.Answers.{found_answer}
-use Rattle.tlv_last.specs.declared.Found.{Found}
-use Rattle.tlv_last.specs.declared.Found.TheVariants as f
-use Rattle.tlv_last.specs.contracts.Found
+use Rattle.laws.proofs.Answers.{gives, on_absent, on_refused}
+use Rattle.laws.proofs.Parts.{length_part}
+use Rattle.tlv.specs.Entries.{Entry}
+use Rattle.tlv_last.specs.Last.{last_entry, spot_at, spot, last_spot, value_or, last_value}
+use Rattle.tlv_last.specs.declared.Spot.{Spot}
 use Rattle.tlv_last.proofs.Lasts.{spot_part}
 use Rattle.channel_masks.specs.Mask.{Masked, items}
-use Rattle.laws.proofs.Parts.{length_part}
-use Rattle.plain_values.specs.Plain.{name_at, checked_answer, checked}
-use Rattle.plain_values.specs.declared.Checked.{Checked}
-use Rattle.plain_values.specs.declared.Checked.TheVariants as c
-use Rattle.plain_values.specs.contracts.Checked
-use Rattle.plain_values.proofs.Names.{name_there}
-use Rattle.dataset_parts.specs.Parts.{name_entry, MaskSpot, mask_at, mask_entry, mask_spot, found_mask_answer}
-use Rattle.dataset_parts.specs.declared.FoundMask.{FoundMask}
-use Rattle.dataset_parts.specs.declared.FoundMask.TheVariants as m
-use Rattle.dataset_parts.specs.contracts.FoundMask
-use Rattle.dataset.proofs.Finds.{found_inside, found}
+use Rattle.plain_values.specs.Plain.{name_at, checked}
+use Rattle.dataset_parts.specs.Parts.{name_entry, mask_at, mask_entry, mask_spot}
+use Rattle.dataset_parts.specs.declared.MaskSpot.{MaskSpot}
+use Rattle.dataset.proofs.Finds.{found_inside, found, none_found, refused_found}
 
 is_given : {A : Type 0} → Answer A → Bool
 is_given (given x) = true
@@ -43,17 +30,6 @@ unfolding is_given
 on_given_lem g (given x) = refl
 on_given_lem g absent = refl
 on_given_lem g (refused n p i) = refl
-
-on_refused : {A B C : Type 0} (g : A → B) (h : A → C) (a : Answer A) (n p i : ℕ) → refused n p i ≡ on_given g a → refused n p i ≡ on_given h a
-on_refused g h (given x) n p i k = absurd (let z : ◌≡◌ {A = ℕ} 0 1 = cc in omega arith)
-on_refused g h absent n p i k = absurd (let z : ◌≡◌ {A = ℕ} 0 1 = cc in omega arith)
-on_refused g h (refused m q j) n p i k = cc
-
-no_value : (x : Answer Entry) → is_given x ≡ false → [] ≡ value_or x
-unfolding is_given
-no_value (given e) h = absurd (let z : ◌≡◌ {A = ℕ} 0 1 = cc in omega arith)
-no_value absent h = refl
-no_value (refused n p i) h = refl
 
 -- x where g answers for its entry
 abbrev keep : {A : Type 0} → Answer Entry → (Entry → Answer A) → Answer Entry
@@ -71,84 +47,60 @@ module _ {A : Type 0} (g : Entry → Answer A) where
   keep_is absent h = refl
   keep_is (refused n p i) h = refl
 
--- ---- the network name
-
-name_given : (place : ℕ) (v : List ℕ) (r : Checked) → OneOf (0 ∷ 1 ∷ []) (tag_of Checked.the_type r) → checked_answer r ≡ checked (name_at place v)
-    → is_given (name_at place v) ≡ true
-unfolding is_given
-name_given place v c.Valid k told = sym (ap is_given told ∙ on_given_lem _ (name_at place v))
-name_given place v c.Absent k told = absurd (name_there place v told)
-name_given place v (c.Refused q) k told = ⊎_elim (λ e. absurd (omega arith)) (λ e. absurd (omega arith)) k
-
-not_found : (r : Found) → OneOf (1 ∷ 2 ∷ []) (tag_of Found.the_type r) → is_given (found_answer r) ≡ false
-unfolding is_given
-not_found (f.At p a n) k = ⊎_elim (λ e. absurd (omega arith)) (λ e. absurd (omega arith)) k
-not_found f.Absent k = refl
-not_found (f.Refused q) k = refl
-
 module _ (s : List ℕ) where
-  name_is : is_given (name_entry s) ≡ true → name_entry s ≡ last_entry 3 0 s
-  unfolding name_entry
-  name_is h = keep_is (λ (e : Entry). name_at e.place e.value) (last_entry 3 0 s) h
+  -- ---- the network name
 
-  -- what `network_name` learns of `check_name`
-  module _ (r : Found) (says : found_answer r ≡ last_spot 3 0 s) (p a n : ℕ) (is : r ≡ f.At p a n) where
-    name_at_lem : (e : Entry) × (name_entry s ≡ on_given (λ (v : List ℕ). e) (name_at p (take n (drop a s))))
+  -- what `network_name` learns: of the entry that was found, and of `check_name`
+  module _ (p a n : ℕ) (told : given (spot_at p a n) ≡ last_spot 3 0 s) where
+    pub name_kept : given tt ≡ checked (name_at p (take n (drop a s))) → given (spot_at p a n) ≡ on_given spot (name_entry s)
     unfolding name_entry
-    name_at_lem = let e = found 3 s r says p a n is in (entry p e.ty a (take n (drop a s)), rw e.is)
+    name_kept says =
+        let x = gives (λ (v : List ℕ). tt) (name_at p (take n (drop a s))) tt (sym says) in
+        let size : length (take n (drop a s)) ≡ n = length_part s a n (found_inside 3 s p a n told) in
+        rw ((found 3 s p a n told).is, x.is, size)
 
-    module _ (k : Checked) (told : checked_answer k ≡ checked (name_at p (take n (drop a s)))) where
-      pub name_kept : OneOf (0 ∷ 1 ∷ []) (tag_of Checked.the_type k) → given (spot_at p a n) ≡ on_given spot (name_entry s)
-      unfolding last_spot
-      name_kept tag =
-          let there = ap is_given name_at_lem.1 ∙ on_given_lem _ (name_at p (take n (drop a s))) ∙ name_given p _ k tag told in
-          sym (ap found_answer is) ∙ says ∙ ap (on_given spot) (sym (name_is there))
+    pub name_refused : (m q j : ℕ) → refused m q j ≡ checked (name_at p (take n (drop a s))) → refused m q j ≡ on_given spot (name_entry s)
+    unfolding name_entry
+    name_refused m q j says = rw ((found 3 s p a n told).is, on_refused (λ (v : List ℕ). tt) _ m q j says)
 
-      pub name_refused : (q : Refusal) → k ≡ c.Refused q → refusal_answer q ≡ on_given spot (name_entry s)
-      name_refused q why =
-          ap (on_given spot) (on_refused _ _ (name_at p (take n (drop a s))) _ _ _ (sym (ap checked_answer why) ∙ told) ∙ sym name_at_lem.1)
+  pub no_name : absent ≡ last_spot 3 0 s → absent ≡ on_given spot (name_entry s)
+  unfolding name_entry
+  no_name told = rw (none_found 3 s told)
+
+  pub no_name_of : (m q j : ℕ) → refused m q j ≡ last_spot 3 0 s → refused m q j ≡ on_given spot (name_entry s)
+  unfolding name_entry
+  no_name_of m q j told = rw (refused_found 3 s m q j told)
 
   -- what the caller of `network_name` learns
-  module _ (r : Found) (says : found_answer r ≡ on_given spot (name_entry s)) where
-    pub name_part : (p a n : ℕ) → r ≡ f.At p a n → (a + n ≤ length s) × (take n (drop a s) ≡ value_or (name_entry s))
-    unfolding is_given last_spot last_value
-    name_part p a n is =
-        let told = sym (ap found_answer is) ∙ says in
-        let same = name_is (sym (ap is_given told ∙ on_given_lem spot (name_entry s))) in
-        let part = spot_part s 3 p a n (told ∙ ap (on_given spot) same) in
-        (part.0, part.1 ∙ ap value_or (sym same))
+  pub name_part : (p a n : ℕ) → given (spot_at p a n) ≡ on_given spot (name_entry s) → (a + n ≤ length s) × (take n (drop a s) ≡ value_or (name_entry s))
+  unfolding is_given last_spot last_value name_entry
+  name_part p a n says =
+      let same = keep_is (λ (e : Entry). name_at e.place e.value) (last_entry 3 0 s) (sym (ap is_given says ∙ on_given_lem spot (name_entry s))) in
+      let part = spot_part s 3 p a n (says ∙ ap (on_given spot) same) in
+      (part.0, part.1 ∙ ap value_or (sym same))
 
-    pub name_none : OneOf (1 ∷ 2 ∷ []) (tag_of Found.the_type r) → [] ≡ value_or (name_entry s)
-    name_none k = no_value (name_entry s) (sym (on_given_lem spot (name_entry s)) ∙ ap is_given (sym says) ∙ not_found r k)
+  -- ---- the channel mask
 
--- ---- the channel mask
-
-not_mask : (r : FoundMask) → OneOf (1 ∷ 2 ∷ []) (tag_of FoundMask.the_type r) → is_given (found_mask_answer r) ≡ false
-unfolding is_given
-not_mask (m.At p a n k) tag = ⊎_elim (λ e. absurd (omega arith)) (λ e. absurd (omega arith)) tag
-not_mask m.Absent tag = refl
-not_mask (m.Refused q) tag = refl
-
--- the spot of an entry whose items are counted, from the count
-counted_mask : (p a n : ℕ) (a' : Answer (List Masked)) (x : Answer ℕ) → x ≡ on_given length a'
-    → on_given (mask_at p a n) x ≡ on_given (λ (is : List Masked). mask_at p a n (length is)) a'
-counted_mask p a n (given is) x told = ap (on_given (mask_at p a n)) told
-counted_mask p a n absent x told = ap (on_given (mask_at p a n)) told
-counted_mask p a n (refused u v w) x told = ap (on_given (mask_at p a n)) told
-
-module _ (s : List ℕ) where
-  -- what `channel_mask` learns of `count_mask_items`
-  module _ (r : Found) (says : found_answer r ≡ last_spot 53 0 s) (p a n : ℕ) (is : r ≡ f.At p a n) where
-    pub mask_told : (x : Answer ℕ) → x ≡ on_given length (items p (take n (drop a s))) → on_given (mask_at p a n) x ≡ mask_spot s
+  -- what `channel_mask` learns: of the entry that was found, and of `count_mask_items`
+  module _ (p a n : ℕ) (told : given (spot_at p a n) ≡ last_spot 53 0 s) where
+    pub mask_counted : (k : ℕ) → given k ≡ on_given length (items p (take n (drop a s))) → given (mask_at p a n k) ≡ mask_spot s
     unfolding mask_spot
-    mask_told x told =
-        let size : length (take n (drop a s)) ≡ n = length_part s a n (found_inside 53 s r says p a n is) in
-        counted_mask p a n (items p (take n (drop a s))) x told
-        ∙ rw ((found 53 s r says p a n is).is, size)
+    mask_counted k says =
+        let x = gives length (items p (take n (drop a s))) k (sym says) in
+        let size : length (take n (drop a s)) ≡ n = length_part s a n (found_inside 53 s p a n told) in
+        rw ((found 53 s p a n told).is, x.is, size, x.so)
 
-  mask_is : is_given (mask_entry s) ≡ true → mask_entry s ≡ last_entry 53 0 s
-  unfolding mask_entry
-  mask_is h = keep_is (λ (e : Entry). items e.place e.value) (last_entry 53 0 s) h
+    pub mask_refused : (m q j : ℕ) → refused m q j ≡ on_given length (items p (take n (drop a s))) → refused m q j ≡ mask_spot s
+    unfolding mask_spot
+    mask_refused m q j says = rw ((found 53 s p a n told).is, on_refused length _ m q j says)
+
+  pub no_mask : absent ≡ last_spot 53 0 s → absent ≡ mask_spot s
+  unfolding mask_spot
+  no_mask told = rw (none_found 53 s told)
+
+  pub no_mask_of : (m q j : ℕ) → refused m q j ≡ last_spot 53 0 s → refused m q j ≡ mask_spot s
+  unfolding mask_spot
+  no_mask_of m q j told = rw (refused_found 53 s m q j told)
 
   -- what the caller of `channel_mask` learns
   abbrev spot_of : MaskSpot → Spot
@@ -173,18 +125,23 @@ module _ (s : List ℕ) where
       both absent = refl
       both (refused u v w) = refl
 
-  module _ (r : FoundMask) (says : found_mask_answer r ≡ mask_spot s) where
-    mask_kind : is_given (mask_entry s) ≡ is_given (found_mask_answer r)
-    mask_kind = sym (on_given_lem spot (mask_entry s)) ∙ ap is_given (sym mask_spot_lem) ∙ on_given_lem spot_of (mask_spot s) ∙ ap is_given (sym says)
+  pub mask_part : (p a n k : ℕ) → given (mask_at p a n k) ≡ mask_spot s → (a + n ≤ length s) × (take n (drop a s) ≡ value_or (mask_entry s))
+  unfolding is_given last_spot last_value mask_entry
+  mask_part p a n k says =
+      let told : given (spot_at p a n) ≡ on_given spot (mask_entry s) = ap (on_given spot_of) says ∙ mask_spot_lem in
+      let same = keep_is (λ (e : Entry). items e.place e.value) (last_entry 53 0 s) (sym (ap is_given told ∙ on_given_lem spot (mask_entry s))) in
+      let part = spot_part s 53 p a n (told ∙ ap (on_given spot) same) in
+      (part.0, part.1 ∙ ap value_or (sym same))
 
-    pub mask_part : (p a n k : ℕ) → r ≡ m.At p a n k → (a + n ≤ length s) × (take n (drop a s) ≡ value_or (mask_entry s))
-    unfolding is_given last_spot last_value
-    mask_part p a n k is =
-        let there = mask_kind ∙ ap (λ (q : FoundMask). is_given (found_mask_answer q)) is in
-        let same = mask_is there in
-        let told = ap (on_given spot_of) (sym (ap found_mask_answer is) ∙ says) ∙ mask_spot_lem ∙ ap (on_given spot) same in
-        let part = spot_part s 53 p a n told in
-        (part.0, part.1 ∙ ap value_or (sym same))
+  pub mask_told : (m q j : ℕ) → refused m q j ≡ mask_spot s → refused m q j ≡ on_given spot (mask_entry s)
+  mask_told m q j says = ap (on_given spot_of) says ∙ mask_spot_lem
 
-    pub mask_none : OneOf (1 ∷ 2 ∷ []) (tag_of FoundMask.the_type r) → [] ≡ value_or (mask_entry s)
-    mask_none tag = no_value (mask_entry s) (mask_kind ∙ not_mask r tag)
+  pub mask_none : absent ≡ mask_spot s → absent ≡ on_given spot (mask_entry s)
+  mask_none says = ap (on_given spot_of) says ∙ mask_spot_lem
+
+-- where none is told, there are no bytes
+pub none_absent : (x : Answer Entry) → absent ≡ on_given spot x → [] ≡ value_or x
+none_absent x says = rw (on_absent spot x says)
+
+pub none_refused : (x : Answer Entry) (m q j : ℕ) → refused m q j ≡ on_given spot x → [] ≡ value_or x
+none_refused x m q j says = rw (on_refused spot x m q j says)

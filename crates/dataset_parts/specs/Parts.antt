@@ -2,14 +2,12 @@
 -- the entry's place.
 -- Assumes nothing.
 use Rattle.std.specs.Prelude.{ℕ, List, [], ◌∷◌, length}
-use Rattle.refusal.specs.Answer.{Answer, given, absent, then_do, on_given}
-use Rattle.refusal.specs.Number.{refusal_answer}
+use Rattle.refusal.specs.Answer.{Answer, then_do, on_given}
 use Rattle.tlv.specs.Entries.{Entry}
 use Rattle.tlv_last.specs.Last.{last_entry}
 use Rattle.channel_masks.specs.Mask.{items, Masked}
 use Rattle.plain_values.specs.Plain.{name_at}
-use Rattle.dataset_parts.specs.declared.FoundMask.{FoundMask}
-use Rattle.dataset_parts.specs.declared.FoundMask.TheVariants as m
+pub use Rattle.dataset_parts.specs.declared.MaskSpot.{MaskSpot}
 
 -- the Rust's numbers of the two types: the name, the mask
 abbrev pub part_types : List ℕ
@@ -27,21 +25,8 @@ mask_as f s = then_do (last_entry 53 0 s) (λ (e : Entry). on_given (f e) (items
 unfoldable pub mask_entry : List ℕ → Answer Entry
 mask_entry s = mask_as (λ (e : Entry) (is : List Masked). e) s
 
--- where it lies, and how many items it has
-pub record MaskSpot : Type 0 where
-  pub place : ℕ
-  pub start : ℕ
-  pub len : ℕ
-  pub items : ℕ
-
 abbrev pub mask_at : (place start len items : ℕ) → MaskSpot
 mask_at p a n k = record { place = p; start = a; len = n; items = k }
 
 unfoldable pub mask_spot : List ℕ → Answer MaskSpot
 mask_spot s = mask_as (λ (e : Entry) (is : List Masked). mask_at e.place e.start (length e.value) (length is)) s
-
--- the code's answer, on paper
-abbrev pub found_mask_answer : FoundMask → Answer MaskSpot
-found_mask_answer (m.At p a n k) = given (mask_at p a n k)
-found_mask_answer m.Absent = absent
-found_mask_answer (m.Refused r) = refusal_answer r

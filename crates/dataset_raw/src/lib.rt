@@ -2,11 +2,12 @@
 #![tactic(auto)]
 
 ghost use Rattle.std.specs.Prelude.{◌≡◌};
+ghost use Rattle.refusal.specs.Results.{found_of};
 ghost use Rattle.dataset_raw.specs.Types.{raw_types};
 ghost use Rattle.tlv_last.specs.Last.{last_spot, last_value};
-ghost use Rattle.tlv_last.specs.Answers.{found_answer};
 
-use tlv_last::Found;
+use refusal::Refusal;
+use tlv_last::Spot;
 
 pub const TLV_PSKC: u8 = 0x04;
 
@@ -18,8 +19,8 @@ fn constants() -> [u8; 1]
 }
 
 // Where the last entry of a type lies. Refusals: 1, 2, 3.
-pub fn raw(s: &[u8], ty: u8) -> Found
-    ensures { found_answer result ≡ last_spot ty 0 s.now }
+pub fn raw(s: &[u8], ty: u8) -> Result<Option<Spot>, Refusal>
+    ensures { found_of result ≡ last_spot ty 0 s.now }
 {
     tlv_last::last_entry(s, ty, 0)
 }
@@ -32,8 +33,8 @@ pub fn raw_value<'a>(s: &'a [u8], ty: u8) -> &'a [u8]
 }
 
 // Where the PSKc lies. Refusals: 1, 2, 3.
-pub fn pskc(s: &[u8]) -> Found
-    ensures { found_answer result ≡ last_spot 4 0 s.now }
+pub fn pskc(s: &[u8]) -> Result<Option<Spot>, Refusal>
+    ensures { found_of result ≡ last_spot 4 0 s.now }
 {
     tlv_last::last_entry(s, TLV_PSKC, 0)
 }

@@ -2,11 +2,10 @@
 #![tactic(auto)]
 
 ghost use Rattle.std.specs.Prelude.{◌≡◌, [], ◌∷◌};
+ghost use Rattle.refusal.specs.Results.{answer_of};
 ghost use Rattle.delay.specs.Delay.{default_delay, half_minute, most_now, delay_or, due_or, working_delay, working_delay_half_minute, due_second, due_second_half_minute};
-ghost use Rattle.delay.specs.Answers.{working_answer, due_answer};
 
 use refusal::{Fault, Refusal};
-use wire::Read32;
 
 // The working delay of a dataset without a delay timer, in milliseconds.
 pub const DEFAULT_DELAY: u32 = 300000;
@@ -30,73 +29,49 @@ fn wide_constants() -> [u64; 1]
     [MAX_NOW]
 }
 
-// A delay in milliseconds. It is never absent.
-#[derive(Clone, Copy)]
-pub enum WorkingDelay {
-    Milliseconds(u32),
-    Refused(Refusal),
-}
-
-#[derive(Clone, Copy)]
-pub enum DueSecond {
-    Second(u64),
-    Refused(Refusal),
-}
-
 // The delay timer, or the default where there is none.
-fn delay_or(dataset: &[u8], default: u32) -> WorkingDelay
-    ensures { working_answer result ≡ delay_or default dataset.now }
+fn delay_or(dataset: &[u8], default: u32) -> Result<u32, Refusal>
+    ensures { answer_of result ≡ delay_or default dataset.now }
 {
-    match dataset::delay_timer(dataset) {
-        Read32::Value(ms) => WorkingDelay::Milliseconds(ms),
-        Read32::Absent => WorkingDelay::Milliseconds(default),
-        Read32::Refused(r) => WorkingDelay::Refused(r),
-    }
+    let timer = dataset::delay_timer(dataset)?;
+    Ok(timer.unwrap_or(default))
 }
 
 // The second at which the dataset is due by the delay that has this default.
-fn due_or(dataset: &[u8], default: u32, clock: u64) -> DueSecond
-    ensures { due_answer result ≡ due_or default dataset.now clock }
+fn due_or(dataset: &[u8], default: u32, clock: u64) -> Result<u64, Refusal>
+    ensures { answer_of result ≡ due_or default dataset.now clock }
 {
-    match delay_or(dataset, default) {
-        WorkingDelay::Milliseconds(ms) => {
-            if clock > MAX_NOW {
-                return DueSecond::Refused(Refusal {
-                    fault: Fault::NowTooLate,
-                    place: 0,
-                    input: 0,
-                });
-            }
-            DueSecond::Second(clock + (ms as u64 + 999) / 1000)
-        }
-        WorkingDelay::Refused(r) => DueSecond::Refused(r),
+    let ms = delay_or(dataset, default)?;
+    if clock > MAX_NOW {
+        return refusal::refuse(Fault::NowTooLate, 0);
     }
+    Ok(clock + u64::from(ms).div_ceil(1000))
 }
 
 // The delay timer, or five minutes where there is none. Refusals: 1, 2, 3, then 4 at the timer's entry.
-pub fn working_delay(dataset: &[u8]) -> WorkingDelay
-    ensures { working_answer result ≡ working_delay dataset.now }
+pub fn working_delay(dataset: &[u8]) -> Result<u32, Refusal>
+    ensures { answer_of result ≡ working_delay dataset.now }
 {
     delay_or(dataset, DEFAULT_DELAY)
 }
 
 // The delay timer, or half a minute where there is none. Refusals: those of `working_delay`.
-pub fn working_delay_half_minute(dataset: &[u8]) -> WorkingDelay
-    ensures { working_answer result ≡ working_delay_half_minute dataset.now }
+pub fn working_delay_half_minute(dataset: &[u8]) -> Result<u32, Refusal>
+    ensures { answer_of result ≡ working_delay_half_minute dataset.now }
 {
     delay_or(dataset, HALF_MINUTE)
 }
 
 // The second at which the dataset is due, where the clock is the second that it is now. Refusals: those of `working_delay`, then 14.
-pub fn due_second(dataset: &[u8], clock: u64) -> DueSecond
-    ensures { due_answer result ≡ due_second dataset.now clock }
+pub fn due_second(dataset: &[u8], clock: u64) -> Result<u64, Refusal>
+    ensures { answer_of result ≡ due_second dataset.now clock }
 {
     due_or(dataset, DEFAULT_DELAY, clock)
 }
 
 // The due second by the delay of `working_delay_half_minute`. Refusals: those of `due_second`.
-pub fn due_second_half_minute(dataset: &[u8], clock: u64) -> DueSecond
-    ensures { due_answer result ≡ due_second_half_minute dataset.now clock }
+pub fn due_second_half_minute(dataset: &[u8], clock: u64) -> Result<u64, Refusal>
+    ensures { answer_of result ≡ due_second_half_minute dataset.now clock }
 {
     due_or(dataset, HALF_MINUTE, clock)
 }

@@ -1,23 +1,24 @@
 -- What a caller of `decode` learns from a record: the entries that were checked, that the record is theirs, and that a part in it is the last value
--- of its type. (For the lists of type 30: `follows` and `none_left`, child_lists/proofs/Lists.antt.)
+-- of its type.
 -- Assumes nothing.
 use mathlib.Core.Path.{◌≡◌, refl, sym, ap, ◌∙◌}
 use mathlib.Core.List.{List}
 use Prim.Native.Nat.{ℕ, ◌+◌, ◌≤◌}
 use native.Mathlib.Omega.{arith}
 use lib.ListN.{length, take, drop}
+use Rattle.std.specs.Prelude.{Option, Some, None}
 use Rattle.refusal.specs.Answer.{Answer, given, absent, refused, on_given}
 use Rattle.refusal.specs.Every.{Every}
+use Rattle.refusal.specs.Results.{option_of}
 use Rattle.tlv.specs.Entries.{Entry, framing}
 use Rattle.tlv.proofs.Walks.{Lies}
 use Rattle.diag_rows.specs.Rows.{part}
+use Rattle.diag_rows.specs.declared.Part.{Part}
 use Rattle.diag_entries.specs.Parts.{last, Said, said, last_says, last_part}
 use Rattle.diag_entries.specs.Checked.{checked}
 use Rattle.diag_entries.specs.Answers.{said_at}
 use Rattle.diag.specs.Diag.{raw, diag, decode}
-use Rattle.diag.specs.Answers.{opt_part, diag_of}
-use Rattle.diag.specs.declared.OptPart.{OptPart}
-use Rattle.diag.specs.declared.OptPart.TheVariants as p
+use Rattle.diag.specs.Answers.{diag_of}
 use Rattle.diag.specs.declared.NetDiagData.{NetDiagData}
 use Rattle.diag_entries.proofs.Checks.{Decodes, Fine, fine_checked}
 use Rattle.diag_entries.proofs.Sound.{Of}
@@ -38,7 +39,7 @@ module _ (s : List ℕ) (r : NetDiagData) where
   decoded_given e = given_by (framing s).entries (checked s) (fine_checked s) e
 
 -- a field of the record that is a part
-module _ {A : Type 0} (f : List ℕ → A) (s : List ℕ) (ty : ℕ) (x : OptPart) (is : on_given (said_at f s) (opt_part x) ≡ last_part ty f (framing s).entries) where
+module _ {A : Type 0} (f : List ℕ → A) (s : List ℕ) (ty : ℕ) (x : Option Part) (is : on_given (said_at f s) (option_of x) ≡ last_part ty f (framing s).entries) where
   there_by : (a n : ℕ) (y : Answer Entry) → Of (Lies s) y → given (said_at f s (part a n)) ≡ on_given (said f) y
       → (a + n ≤ length s) × (on_given (λ (e : Entry). e.value) y ≡ given (take n (drop a s)))
   there_by a n (given e) l h =
@@ -47,14 +48,14 @@ module _ {A : Type 0} (f : List ℕ → A) (s : List ℕ) (ty : ℕ) (x : OptPar
   there_by a n absent l h = absurd (let z : ◌≡◌ {A = ℕ} 0 1 = cc in omega arith)
   there_by a n (refused m q i) l h = absurd l
 
-  pub part_there : (a n : ℕ) → x ≡ p.Some a n → (a + n ≤ length s) × (last_says ty raw (framing s).entries ≡ given (take n (drop a s)))
+  pub part_there : (a n : ℕ) → x ≡ Some (part a n) → (a + n ≤ length s) × (last_says ty raw (framing s).entries ≡ given (take n (drop a s)))
   part_there a n e =
-      there_by a n (last ty (framing s).entries) (last_lies s ty) (sym (ap (λ (z : OptPart). on_given (said_at f s) (opt_part z)) e) ∙ is)
+      there_by a n (last ty (framing s).entries) (last_lies s ty) (sym (ap (λ (z : Option Part). on_given (said_at f s) (option_of z)) e) ∙ is)
 
   none_by : (y : Answer Entry) → Of (Lies s) y → absent ≡ on_given (said f) y → y ≡ absent
   none_by (given e) l h = absurd (let z : ◌≡◌ {A = ℕ} 0 1 = cc in omega arith)
   none_by absent l h = refl
   none_by (refused m q i) l h = absurd l
 
-  pub part_absent : x ≡ p.None → last ty (framing s).entries ≡ absent
-  part_absent e = none_by (last ty (framing s).entries) (last_lies s ty) (sym (ap (λ (z : OptPart). on_given (said_at f s) (opt_part z)) e) ∙ is)
+  pub part_absent : x ≡ None → last ty (framing s).entries ≡ absent
+  part_absent e = none_by (last ty (framing s).entries) (last_lies s ty) (sym (ap (λ (z : Option Part). on_given (said_at f s) (option_of z)) e) ∙ is)

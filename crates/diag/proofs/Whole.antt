@@ -9,10 +9,12 @@ use lib.Dec.{eqb}
 use borrow.Author.Tests.{eqb-true}
 use Rattle.refusal.specs.Answer.{pick, Answer, given, absent, refused, on_given}
 use Rattle.refusal.specs.Every.{Every}
+use Rattle.refusal.specs.Results.{option_of}
 use Rattle.laws.proofs.Tests.{pick_all}
 use Rattle.wire.specs.Be.{be}
 use Rattle.tlv.specs.Entries.{Entry, framing}
-use Rattle.tlv_last.specs.Last.{Spot, spot, last_of}
+use Rattle.tlv_last.specs.Last.{spot, last_of}
+use Rattle.tlv_last.specs.declared.Spot.{Spot}
 use Rattle.tlv.proofs.Walks.{Lies, framing_lies}
 use Rattle.network_data.specs.Decode.{Prefix, contents, decode_network_data}
 use Rattle.network_data.proofs.Counted.{is_contents}
@@ -20,13 +22,12 @@ use Rattle.diag_values.specs.Values.{mode_value, leader_of, counters_of}
 use Rattle.connectivity.specs.Connectivity.{connectivity_of}
 use Rattle.route64.specs.Routes.{route_of}
 use Rattle.diag_rows.specs.Rows.{child_rows, addresses}
-use Rattle.diag_values.specs.Answers.{opt_answer8, opt_answer16}
 use Rattle.diag_entries.specs.Parts.{last, all_of, said}
 use Rattle.diag_entries.specs.Checked.{entry_value}
 use Rattle.diag_entries.specs.Lists.{address_lists}
 use Rattle.diag_entries.specs.Answers.{said_at}
 use Rattle.diag.specs.Diag.{network_data_of, raw, byte_of, diag}
-use Rattle.diag.specs.Answers.{opt_answer32, opt_mode, opt_connectivity, opt_leader_data, opt_mac_counters, opt_part, opt_network_data, diag_of}
+use Rattle.diag.specs.Answers.{opt_connectivity, opt_network_data, diag_of}
 use Rattle.diag.specs.Loops.{last_in, InPayload, or_none, read_at, network_at, part_of, collected}
 use Rattle.diag.specs.declared.NetDiagData.{NetDiagData}
 use Rattle.diag_entries.proofs.Checks.{Decodes, entry_network, entry_other}
@@ -126,22 +127,22 @@ module _ (s : List ℕ) (d : Every Decodes (framing s).entries) where
 
 -- ---- the record that `collect` makes, by its fields
 pub made : (s : List ℕ) (r : NetDiagData)
-    → opt_part r.ext_mac_addr ≡ on_given part_of (last_in 0 s)
-    → opt_answer16 r.mac_addr ≡ read_at 1 be s (last_in 1 s)
-    → opt_mode r.mode ≡ read_at 2 mode_value s (last_in 2 s)
-    → opt_answer32 r.timeout ≡ read_at 3 be s (last_in 3 s)
+    → option_of r.ext_mac_addr ≡ on_given part_of (last_in 0 s)
+    → option_of r.mac_addr ≡ read_at 1 be s (last_in 1 s)
+    → option_of r.mode ≡ read_at 2 mode_value s (last_in 2 s)
+    → option_of r.timeout ≡ read_at 3 be s (last_in 3 s)
     → opt_connectivity r.connectivity ≡ read_at 4 connectivity_of s (last_in 4 s)
-    → opt_part r.route64 ≡ on_given part_of (last_in 5 s)
-    → opt_leader_data r.leader_data ≡ read_at 6 leader_of s (last_in 6 s)
+    → option_of r.route64 ≡ on_given part_of (last_in 5 s)
+    → option_of r.leader_data ≡ read_at 6 leader_of s (last_in 6 s)
     → opt_network_data s r.network_data ≡ network_at s (last_in 7 s)
-    → opt_part r.addresses ≡ on_given part_of (last_in 8 s)
-    → opt_mac_counters r.mac_counters ≡ read_at 9 counters_of s (last_in 9 s)
-    → opt_answer8 r.battery_level ≡ read_at 14 byte_of s (last_in 14 s)
-    → opt_answer16 r.supply_voltage ≡ read_at 15 be s (last_in 15 s)
-    → opt_part r.child_table ≡ on_given part_of (last_in 16 s)
-    → opt_part r.channel_pages ≡ on_given part_of (last_in 17 s)
-    → opt_part r.type_list ≡ on_given part_of (last_in 18 s)
-    → opt_part r.eui64 ≡ on_given part_of (last_in 23 s)
+    → option_of r.addresses ≡ on_given part_of (last_in 8 s)
+    → option_of r.mac_counters ≡ read_at 9 counters_of s (last_in 9 s)
+    → option_of r.battery_level ≡ read_at 14 byte_of s (last_in 14 s)
+    → option_of r.supply_voltage ≡ read_at 15 be s (last_in 15 s)
+    → option_of r.child_table ≡ on_given part_of (last_in 16 s)
+    → option_of r.channel_pages ≡ on_given part_of (last_in 17 s)
+    → option_of r.type_list ≡ on_given part_of (last_in 18 s)
+    → option_of r.eui64 ≡ on_given part_of (last_in 23 s)
     → r.child_ipv6_addresses ≡ length (all_of 30 (framing s).entries)
     → diag_of s r ≡ collected s
 unfolding diag_of collected

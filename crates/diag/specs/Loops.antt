@@ -1,36 +1,39 @@
 -- What the private functions promise: no public contract cites it.
 -- Assumes nothing.
-use Rattle.std.specs.Prelude.{◌≡◌, ℕ, ◌+◌, ◌≤◌, ◌<◌, List, length, get_or, eqb}
-use Rattle.refusal.specs.Answer.{pick, Answer, given, absent, refused, then_do, on_given}
+use Rattle.std.specs.Prelude.{◌≡◌, ℕ, ◌+◌, ◌≤◌, ◌<◌, List, length, get_or, Option, Some, None, Result}
+use Rattle.std.specs.Result.{result_ok}
+use denote.Bor.{Bor}
+use Rattle.refusal.specs.Answer.{Answer, given, absent, refused, then_do, on_given}
+use Rattle.refusal.specs.Results.{option_of}
+use Rattle.refusal.specs.declared.Refusal.{Refusal}
 use Rattle.wire.specs.Be.{be}
 use Rattle.tlv.specs.Entries.{framing}
-use Rattle.tlv_last.specs.Last.{Spot, spot_at, spot}
+use Rattle.tlv_last.specs.Last.{spot}
+use Rattle.tlv_last.specs.declared.Spot.{Spot}
 use Rattle.network_data.specs.Decode.{Prefix, contents, counts_of, decode_network_data}
 use Rattle.diag_values.specs.Values.{mode_value, leader_of, counters_of}
 use Rattle.connectivity.specs.Connectivity.{connectivity_of}
 use Rattle.route64.specs.Routes.{route_of}
-use Rattle.diag_rows.specs.Rows.{Part, part, child_rows, addresses}
+use Rattle.diag_rows.specs.Rows.{part, child_rows, addresses}
+use Rattle.diag_rows.specs.declared.Part.{Part}
 use Rattle.diag_rules.specs.Rule.{value_of}
 use Rattle.diag_entries.specs.Parts.{last, all_of, Said}
 use Rattle.diag_entries.specs.Answers.{bytes_at, said_at}
 use Rattle.diag.specs.Diag.{NetworkDataValue, raw, byte_of, Diag}
 use Rattle.diag.specs.declared.Places.{Places}
 
--- where the last entry of a type lies, by the table's four columns
-unfoldable pub spot_in : (count place start len : List ℕ) → (ty : ℕ) → Answer Spot
-spot_in c p a n t = pick (eqb (get_or c t 0) 0) absent (given (spot_at (get_or p t 0) (get_or a t 0) (get_or n t 0)))
-
+-- where the last entry of a type lies, by the table
 abbrev pub spot_of : Places → (ty : ℕ) → Answer Spot
-spot_of p t = spot_in p.count p.place p.start p.len t
+spot_of p t = option_of (get_or p.last t None)
 
 -- where the last entry of a type lies in s
 abbrev pub last_in : (ty : ℕ) → List ℕ → Answer Spot
 last_in ty s = on_given spot (last ty (framing s).entries)
 
--- the table holds, for each type below 32, where its last entry in s lies and how many there are
+-- the table holds, for each type below 32, where its last entry in s lies, and how many entries have type 30
 pub record Located (p : Places) (s : List ℕ) : Type 0 where
   pub is : (t : ℕ) → t < 32 → spot_of p t ≡ last_in t s
-  pub many : (t : ℕ) → t < 32 → get_or p.count t 0 ≡ length (all_of t (framing s).entries)
+  pub many : p.lists ≡ length (all_of 30 (framing s).entries)
 
 -- the value, if there is one, lies within s
 abbrev pub InPayload : List ℕ → Answer Spot → Type 0
@@ -48,7 +51,12 @@ or_none (refused n p i) = absent
 unfoldable pub read_at : {A : Type 0} → (ty : ℕ) → (List ℕ → A) → List ℕ → Answer Spot → Answer A
 read_at ty f s x = or_none (then_do x (λ (q : Spot). on_given f (value_of ty q.place (bytes_at s q.start q.len))))
 
--- the same of Network Data
+-- what is made of the value at a spot by a reader that may give x of a value and a place
+abbrev pub ReadBy : {A : Type 0} → (Bor (List ℕ) → ℕ → Result A Refusal → Type 0) → List ℕ → Option Spot → Option A → Type 0
+ReadBy reads s None r = r ≡ None
+ReadBy {A} reads s (Some q) r = (v : Bor (List ℕ)) × (v.now ≡ bytes_at s q.start q.len) × (x : Result A Refusal) × reads v q.place x × (r ≡ result_ok x)
+
+-- what the definition says of Network Data there
 unfoldable pub network_at : List ℕ → Answer Spot → Answer (Said NetworkDataValue)
 network_at s x =
     or_none

@@ -10,10 +10,9 @@ use borrow.Author.Tests.{eq-eqb, ne_eqb}
 use Rattle.refusal.specs.Answer.{Answer, given, absent, refused, then_do, on_given}
 use Rattle.refusal.specs.Every.{Every}
 use Rattle.laws.proofs.Tests.{by_test}
-use Rattle.tlv.specs.Entries.{Entry, Framing, framing}
+use Rattle.tlv.specs.Entries.{Entry, framing}
 use Rattle.tlv.specs.Limits.{framed, count}
-use Rattle.tlv.proofs.Walks.{from, from_start}
-use Rattle.tlv.proofs.Tally.{Only, only, counted_given, counted_refused, counted_number}
+use Rattle.tlv.proofs.Tally.{Only, only, counted_framed, counted_refused, counted_number}
 use Rattle.network_data.specs.Decode.{Prefix, counts_of, decode_network_data}
 use Rattle.network_data.specs.declared.Counts.{Counts}
 use Rattle.diag_rules.specs.Rule.{value_of}
@@ -117,13 +116,11 @@ module _ (s : List ℕ) where
   unfolding checked
   check_refused n p k e = ap (on_given length) (counted_refused 0 decoding s n p k e)
 
-  pub check_start : (n : ℕ) → given n ≡ count 0 s → verdict n (from s 0).entries ≡ on_given length (checked s)
+  pub check_start : (n : ℕ) → given n ≡ count 0 s → verdict n (framing s).entries ≡ on_given length (checked s)
   unfolding verdict checked
   check_start n e =
-      number_by n (from s 0).entries (decoding (from s 0).entries)
-      (counted_number 0 s n e ∙ ap (λ (w : Framing). length w.entries) (sym (from_start s)))
-      (fine (from s 0).entries)
-      ∙ ap (on_given length) (sym (counted_given 0 decoding s n e))
+      number_by n (framing s).entries (decoding (framing s).entries) (counted_number 0 s n e) (fine (framing s).entries)
+      ∙ ap (on_given length) (sym (counted_framed 0 decoding s n e))
 
   -- ---- what a caller of `check_values` learns
   learnt_by : (es : List Entry) (a : Answer (List Entry)) (n : ℕ) → Fine es a → given n ≡ on_given length a → (a ≡ given es) × Every Decodes es

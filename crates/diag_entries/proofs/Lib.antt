@@ -1,3 +1,4 @@
 pub mod Lasts
 pub mod Checks
 pub mod Sound
+pub mod Passed

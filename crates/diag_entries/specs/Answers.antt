@@ -1,7 +1,7 @@
 -- A part of the payload s, on paper: it says what the definition says of its bytes.
 -- Assumes nothing.
 use Rattle.std.specs.Prelude.{ℕ, List, take, drop}
-use Rattle.diag_rows.specs.Rows.{Part}
+use Rattle.diag_rows.specs.declared.Part.{Part}
 use Rattle.diag_entries.specs.Parts.{Said}
 
 -- the bytes of a part of s, and what f says of them

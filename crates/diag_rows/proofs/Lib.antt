@@ -1,3 +1,2 @@
 pub mod Listing
 pub mod Within
-pub mod Papers

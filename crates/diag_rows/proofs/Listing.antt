@@ -10,7 +10,8 @@ use borrow.Author.Tests.{ltb-true, ltb-false}
 use Rattle.laws.proofs.Tests.{by_test}
 use Rattle.refusal.specs.Answer.{Answer, given, absent, on_given, then_do}
 use Rattle.refusal.specs.Numbered.{nth}
-use Rattle.diag_rows.specs.Rows.{listed, child_at, child_rows, addresses, Part, part, address_parts, or_empty}
+use Rattle.diag_rows.specs.Rows.{listed, child_at, child_rows, addresses, part, address_parts, or_empty}
+use Rattle.diag_rows.specs.declared.Part.{Part}
 use Rattle.diag_rules.specs.Rule.{value_of}
 use Rattle.diag_rows.specs.declared.ChildTableEntry.{ChildTableEntry}
 use Rattle.diag_rules.proofs.Kept.{value_cases}

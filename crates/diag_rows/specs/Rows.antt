@@ -6,6 +6,7 @@ use Rattle.diag_rules.specs.Mask.{byte_at}
 use Rattle.diag_values.specs.Values.{number_at, mode_of}
 use Rattle.diag_rows.specs.declared.ChildTableEntry.{ChildTableEntry}
 use Rattle.diag_rows.specs.declared.ChildIpv6AddrInfo.{ChildIpv6AddrInfo}
+use Rattle.diag_rows.specs.declared.Part.{Part}
 
 -- f 0, f 1, .. f (n - 1)
 unfoldable pub listed : {A : Type 0} → (ℕ → A) → ℕ → List A
@@ -33,10 +34,6 @@ unfoldable pub addresses : List ℕ → List (List ℕ)
 addresses v = listed (λ k. take 16 (drop (k * 16) v)) (length v / 16)
 
 -- where they stand: each is the len bytes from start on
-pub record Part : Type 0 where
-  pub start : ℕ
-  pub len : ℕ
-
 abbrev pub part : (start len : ℕ) → Part
 part a n = record { start = a; len = n }
 

@@ -5,12 +5,10 @@
 ghost use Rattle.std.specs.Prelude.{◌≡◌, List, ℕ, ◌+◌, ◌%◌, ◌≤◌, length};
 ghost use Rattle.refusal.specs.Answer.{on_given, then_do};
 ghost use Rattle.refusal.specs.Numbered.{nth};
-ghost use Rattle.diag_values.specs.Values.{number_at};
+ghost use Rattle.refusal.specs.Results.{answer_of, found_of};
 ghost use Rattle.diag_rules.specs.Rule.{value_of};
 ghost use Rattle.diag_rows.specs.Rows.{child_at, child_rows, addresses, address_parts, timeout_seconds, or_empty, address_list_of};
-ghost use Rattle.diag_rows.specs.Answers.{address_list_answer, child_answer, part_answer};
 
-use diag_rules::Judged;
 use diag_values::ModeData;
 use refusal::Refusal;
 
@@ -32,35 +30,11 @@ pub struct ChildIpv6AddrInfo {
     pub len: usize,
 }
 
-// A value that was read. `Absent` is for queries that find no value to read, and for a row past the last.
-#[derive(Clone, Copy)]
-pub enum ReadAddressList {
-    Value(ChildIpv6AddrInfo),
-    Absent,
-    Refused(Refusal),
-}
-
-#[derive(Clone, Copy)]
-pub enum ReadChild {
-    Value(ChildTableEntry),
-    Absent,
-    Refused(Refusal),
-}
-
 // A part of a value: the len bytes from start on.
 #[derive(Clone, Copy)]
-pub enum ReadPart {
-    Part { start: usize, len: usize },
-    Absent,
-    Refused(Refusal),
-}
-
-// The number that two bytes of a value spell.
-fn u16_at(v: &[u8], at: usize) -> u16
-    requires { at + 2 ≤ length v.now }
-    ensures { result ≡ number_at 2 at v.now }
-{
-    (v[at] as u16) * 256 + v[at + 1] as u16
+pub struct Part {
+    pub start: usize,
+    pub len: usize,
 }
 
 // Type 30.
@@ -68,9 +42,9 @@ fn address_list_of(v: &[u8]) -> ChildIpv6AddrInfo
     requires { 2 ≤ length v.now }
     ensures { result ≡ address_list_of v.now }
 {
-    let rloc16 = u16_at(v, 0);
+    let rloc16 = u16::from_be_bytes([v[0], v[1]]);
     ChildIpv6AddrInfo {
-        rloc16: rloc16,
+        rloc16,
         child_id: rloc16 % 512,
         start: 2,
         len: v.len() - 2,
@@ -78,13 +52,11 @@ fn address_list_of(v: &[u8]) -> ChildIpv6AddrInfo
 }
 
 // A child's RLOC16, its ID, and where its addresses stand in the value. Refusals, here and below: those of `diag_rules::check_value`.
-pub fn decode_child_ipv6_addresses(value: &[u8], place: usize) -> ReadAddressList
-    ensures { address_list_answer result ≡ on_given address_list_of (value_of 30 place value.now) }
+pub fn decode_child_ipv6_addresses(value: &[u8], place: usize) -> Result<ChildIpv6AddrInfo, Refusal>
+    ensures { answer_of result ≡ on_given address_list_of (value_of 30 place value.now) }
 {
-    match diag_rules::check_value(diag_rules::CHILD_IPV6_ADDRESSES, value, place) {
-        Judged::Kept => ReadAddressList::Value(address_list_of(value)),
-        Judged::Refused(r) => ReadAddressList::Refused(r),
-    }
+    diag_rules::check_value(diag_rules::CHILD_IPV6_ADDRESSES, value, place)?;
+    Ok(address_list_of(value))
 }
 
 // Type 16: the three bytes of a child table from a place on.
@@ -92,29 +64,24 @@ fn child_at(v: &[u8], at: usize) -> ChildTableEntry
     requires { at + 3 ≤ length v.now }
     ensures { result ≡ child_at v.now at }
 {
-    let bits = u16_at(v, at);
-    let mode = diag_values::mode_of(v[at + 2]);
+    let bits = u16::from_be_bytes([v[at], v[at + 1]]);
     ChildTableEntry {
         timeout_exponent: (bits / 2048 % 32) as u8,
         incoming_link_quality: (bits / 512 % 4) as u8,
         child_id: bits % 512,
-        mode: mode,
+        mode: diag_values::mode_of(v[at + 2]),
     }
 }
 
 // Row k of a child table, from 0 on. Refusals of the row calls: those of `diag_rules::check_value` at place 0.
-pub fn child_row(value: &[u8], k: usize) -> ReadChild
-    ensures { child_answer result ≡ then_do (value_of 16 0 value.now) (λ (v : List ℕ). nth (child_rows v) k) }
+pub fn child_row(value: &[u8], k: usize) -> Result<Option<ChildTableEntry>, Refusal>
+    ensures { found_of result ≡ then_do (value_of 16 0 value.now) (λ (v : List ℕ). nth (child_rows v) k) }
 {
-    match diag_rules::check_value(diag_rules::CHILD_TABLE, value, 0) {
-        Judged::Kept => {
-            if value.len() / diag_rules::CHILD_ENTRY_LEN <= k {
-                return ReadChild::Absent;
-            }
-            ReadChild::Value(child_at(value, k * diag_rules::CHILD_ENTRY_LEN))
-        }
-        Judged::Refused(r) => ReadChild::Refused(r),
+    diag_rules::check_value(diag_rules::CHILD_TABLE, value, 0)?;
+    if value.len() / diag_rules::CHILD_ENTRY_LEN <= k {
+        return Ok(None);
     }
+    Ok(Some(child_at(value, k * diag_rules::CHILD_ENTRY_LEN)))
 }
 
 impl ChildTableEntry {
@@ -131,21 +98,17 @@ impl ChildTableEntry {
 }
 
 // Type 8: where address k of an IPv6 address list stands, from 0 on.
-pub fn address_at(value: &[u8], k: usize) -> ReadPart
-    ensures { part_answer result ≡ then_do (value_of 8 0 value.now) (λ (v : List ℕ). nth (address_parts v) k) }
+pub fn address_at(value: &[u8], k: usize) -> Result<Option<Part>, Refusal>
+    ensures { found_of result ≡ then_do (value_of 8 0 value.now) (λ (v : List ℕ). nth (address_parts v) k) }
 {
-    match diag_rules::check_value(diag_rules::IPV6_ADDRESSES, value, 0) {
-        Judged::Kept => {
-            if value.len() / 16 <= k {
-                return ReadPart::Absent;
-            }
-            ReadPart::Part {
-                start: k * 16,
-                len: 16,
-            }
-        }
-        Judged::Refused(r) => ReadPart::Refused(r),
+    diag_rules::check_value(diag_rules::IPV6_ADDRESSES, value, 0)?;
+    if value.len() / 16 <= k {
+        return Ok(None);
     }
+    Ok(Some(Part {
+        start: k * 16,
+        len: 16,
+    }))
 }
 
 // Its bytes; none where `address_at` gives none.
@@ -153,8 +116,8 @@ pub fn address<'a>(value: &'a [u8], k: usize) -> &'a [u8]
     ensures { result.now ≡ or_empty (then_do (value_of 8 0 value.now) (λ (v : List ℕ). nth (addresses v) k)) }
 {
     match address_at(value, k) {
-        ReadPart::Part { start, len } => &value[start..start + len],
-        ReadPart::Absent => &value[..0],
-        ReadPart::Refused(_) => &value[..0],
+        Ok(Some(part)) => &value[part.start..part.start + part.len],
+        Ok(None) => &value[..0],
+        Err(_) => &value[..0],
     }
 }

@@ -78,7 +78,7 @@ module _ (v : List ℕ) (j : ℕ) where
       (λ t. rw t (rest_hit k v (omega arith) (bit_same i k e (omega arith) ∙ t) ∙ ap₂ ◌∷◌ e more))
       (λ t. rw t (rest_miss k v (omega arith) (bit_same i k e (omega arith) ∙ t) ∙ more))
 
-  to_come_start : j < 8 → rest (j * 8) v ≡ to_come v j (byte_at v (1 + j))
+  pub to_come_start : j < 8 → rest (j * 8) v ≡ to_come v j (byte_at v (1 + j))
   unfolding to_come bits
   to_come_start h = by_bits 8 0 (j * 8) (omega arith) (omega arith) h
 
@@ -94,6 +94,9 @@ module _ (v : List ℕ) (j b : ℕ) where
   to_come_none : b ≡ 0 → to_come v j b ≡ rest (j * 8 + 8) v
   unfolding to_come bits bits_from bit_of
   to_come_none none = rw none
+
+  pub to_come_next_byte : b ≡ 0 → to_come v j b ≡ rest ((j + 1) * 8) v
+  to_come_next_byte none = let z : j * 8 + 8 ≡ (j + 1) * 8 = omega arith in to_come_none none ∙ ap (λ (k : ℕ). rest k v) z
 
   pub to_come_next : b ≡ 0 → j + 1 < 8 → to_come v j b ≡ to_come v (j + 1) (byte_at v (1 + (j + 1)))
   to_come_next none h = let z : j * 8 + 8 ≡ (j + 1) * 8 = omega arith in to_come_none none ∙ ap (λ (k : ℕ). rest k v) z ∙ to_come_start v (j + 1) h

@@ -1,4 +1,3 @@
 pub mod Kept
 pub mod Mask
 pub mod Bits
-pub mod Papers

@@ -2,9 +2,10 @@
 #![tactic(auto)]
 
 ghost use Rattle.std.specs.Prelude.{◌≡◌, ◌≤◌, length};
+ghost use Rattle.refusal.specs.Results.{answer_of};
 ghost use Rattle.diag_rules.specs.Mask.{bit_of, routers_of, routes_fit};
 ghost use Rattle.diag_rules.specs.Rule.{diag_types, part_sizes, keeps_rule, value_of};
-ghost use Rattle.diag_rules.specs.Answers.{judged_answer, judged};
+ghost use Rattle.diag_rules.specs.Answers.{judged};
 
 use refusal::{Fault, Refusal};
 
@@ -80,13 +81,6 @@ fn size_constants() -> [usize; 2]
     [ROUTER_ID_MASK_LEN, CHILD_ENTRY_LEN]
 }
 
-// Whether a value keeps the sizes and the rule of its type.
-#[derive(Clone, Copy)]
-pub enum Judged {
-    Kept,
-    Refused(Refusal),
-}
-
 // Whether a byte of a Route64's mask assigns router k, which is one of its eight.
 pub fn assigns(byte: u8, k: usize) -> bool
     ensures { result ≡ bit_of byte k }
@@ -101,10 +95,8 @@ fn count_routers(v: &[u8]) -> usize
     ensures { (result ≡ length (routers_of v.now)) × (result ≤ 64) }
 {
     let mut n: usize = 0;
-    let mut j: usize = 0;
-    while j < ROUTER_ID_MASK_LEN {
-        n += u8::count_ones(v[1 + j]) as usize;
-        j += 1;
+    for b in &v[1..ROUTES_AT] {
+        n += b.count_ones() as usize;
     }
     n
 }
@@ -113,10 +105,7 @@ fn count_routers(v: &[u8]) -> usize
 fn routes_fit(v: &[u8]) -> bool
     ensures { result ≡ routes_fit v.now }
 {
-    if v.len() < ROUTES_AT {
-        return false;
-    }
-    v.len() == ROUTES_AT + count_routers(v)
+    v.len() >= ROUTES_AT && v.len() == ROUTES_AT + count_routers(v)
 }
 
 // Whether the length of a value keeps the rule of its type: document 01's table.
@@ -137,29 +126,21 @@ fn keeps_rule(ty: u8, v: &[u8]) -> bool
         SUPPLY_VOLTAGE => n == 2,
         CHILD_TABLE => n % CHILD_ENTRY_LEN == 0,
         EUI64 => n == 8,
-        CHILD_IPV6_ADDRESSES => { if n < 2 { false } else { (n - 2) % 16 == 0 } }
+        CHILD_IPV6_ADDRESSES => n >= 2 && (n - 2) % 16 == 0,
         _ => true,
     }
 }
 
 // Whether a value of a type may be read. Refusals: 1, then 4 at the place of its entry, which is 0 for a bare value. A type that is not known
 // takes any bytes, and so does 7, whose own rules are not these.
-pub fn check_value(ty: u8, value: &[u8], place: usize) -> Judged
-    ensures { judged_answer result ≡ judged (value_of ty place value.now) }
+pub fn check_value(ty: u8, value: &[u8], place: usize) -> Result<(), Refusal>
+    ensures { answer_of result ≡ judged (value_of ty place value.now) }
 {
     if value.len() > refusal::MAX_BYTES {
-        return Judged::Refused(Refusal {
-            fault: Fault::TooLarge,
-            place: 0,
-            input: 0,
-        });
+        return refusal::refuse(Fault::TooLarge, 0);
     }
     if keeps_rule(ty, value) {
-        return Judged::Kept;
+        return Ok(());
     }
-    Judged::Refused(Refusal {
-        fault: Fault::BadLength,
-        place: place,
-        input: 0,
-    })
+    refusal::refuse(Fault::BadLength, place)
 }

@@ -7,7 +7,7 @@ use native.Mathlib.Omega.{arith}
 use lib.ListN.{length, take, drop}
 use Rattle.refusal.specs.Answer.{Answer, given, absent, refused, on_given}
 use Rattle.tlv.specs.Entries.{Entry, framing}
-use Rattle.tlv_last.specs.Last.{Spot}
+use Rattle.tlv_last.specs.declared.Spot.{Spot}
 use Rattle.network_data.specs.Decode.{Prefix, contents, counts_of, decode_network_data}
 use Rattle.network_data.proofs.Counted.{is_contents}
 use Rattle.network_data.proofs.Anywhere.{given_anywhere}

@@ -1,4 +1,3 @@
 pub mod Held
 pub mod Plans
-pub mod Values
 pub mod Papers

@@ -1,3 +1,2 @@
 pub mod Numbers
 pub mod Agree
-pub mod Papers

@@ -1,6 +1,6 @@
 -- The numbers that the bytes of a part of a value spell.
 -- Assumes nothing.
-use mathlib.Core.Path.{◌≡◌, ◌∙◌}
+use mathlib.Core.Path.{◌≡◌}
 use mathlib.Core.List.{List}
 use Prim.Native.Nat.{ℕ, suc, ◌+◌, ◌*◌, ◌≤◌}
 use native.Mathlib.Omega.{arith}
@@ -15,13 +15,10 @@ pub two_spell : (v : List ℕ) (at : ℕ) → at + 2 ≤ length v → byte_at v 
 unfolding be be_from
 two_spell v at h = rw (part_elements 2 at v h, add-one at) (omega arith)
 
-pub four_spell : (v : List ℕ) (at : ℕ) → at + 4 ≤ length v → number_at 2 at v * 65536 + number_at 2 (at + 2) v ≡ number_at 4 at v
+pub four_spell : (v : List ℕ) (at : ℕ) → at + 4 ≤ length v
+    → byte_at v at * 16777216 + byte_at v (at + 1) * 65536 + byte_at v (at + 2) * 256 + byte_at v (at + 3) ≡ number_at 4 at v
 unfolding be be_from
 four_spell v at h =
     let z : at + 2 ≡ suc (suc at) = omega arith in
-    rw (part_elements 4 at v h, part_elements 2 at v (omega arith), part_elements 2 (at + 2) v (omega arith), z) (omega arith)
-
--- the same, however the code puts the halves together
-pub four_of : (v : List ℕ) (at hi lo x : ℕ) → at + 4 ≤ length v → hi ≡ number_at 2 at v → lo ≡ number_at 2 (at + 2) v → x ≡ hi * 65536 + lo
-    → x ≡ number_at 4 at v
-four_of v at hi lo x h e f s = s ∙ rw (e, f) (four_spell v at h)
+    let y : at + 3 ≡ suc (suc (suc at)) = omega arith in
+    rw (part_elements 4 at v h, z, y, add-one at) (omega arith)

@@ -4,26 +4,12 @@
 
 ghost use Rattle.std.specs.Prelude.{◌≡◌, List, ℕ, ◌+◌, ◌≤◌, length};
 ghost use Rattle.refusal.specs.Answer.{on_given};
+ghost use Rattle.refusal.specs.Results.{answer_of};
 ghost use Rattle.diag_rules.specs.Mask.{byte_at};
 ghost use Rattle.diag_rules.specs.Rule.{value_of};
 ghost use Rattle.diag_values.specs.Values.{number_at, mode_of, mode_value, leader_of, counters_of};
-ghost use Rattle.diag_values.specs.Answers.{answer8, mode_answer, leader_answer, counters_answer};
 
-use diag_rules::Judged;
 use refusal::Refusal;
-
-// A field that may be missing.
-#[derive(Clone, Copy)]
-pub enum OptU8 {
-    Some(u8),
-    None,
-}
-
-#[derive(Clone, Copy)]
-pub enum OptU16 {
-    Some(u16),
-    None,
-}
 
 // The bits of an MLE Mode byte.
 #[derive(Clone, Copy)]
@@ -55,59 +41,20 @@ pub struct MacCounters {
     pub if_out_discards: u32,
 }
 
-// A value that was read. `Absent` is for queries that find no value to read.
-#[derive(Clone, Copy)]
-pub enum Read8 {
-    Value(u8),
-    Absent,
-    Refused(Refusal),
-}
-
-#[derive(Clone, Copy)]
-pub enum ReadMode {
-    Value(ModeData),
-    Absent,
-    Refused(Refusal),
-}
-
-#[derive(Clone, Copy)]
-pub enum ReadLeaderData {
-    Value(LeaderData),
-    Absent,
-    Refused(Refusal),
-}
-
-#[derive(Clone, Copy)]
-pub enum ReadMacCounters {
-    Value(MacCounters),
-    Absent,
-    Refused(Refusal),
-}
-
-// The number that two bytes of a value spell.
-fn u16_at(v: &[u8], at: usize) -> u16
-    requires { at + 2 ≤ length v.now }
-    ensures { result ≡ number_at 2 at v.now }
-{
-    (v[at] as u16) * 256 + v[at + 1] as u16
-}
-
-// The same of four bytes.
+// The number that four bytes of a value spell.
 fn u32_at(v: &[u8], at: usize) -> u32
     requires { at + 4 ≤ length v.now }
     ensures { result ≡ number_at 4 at v.now }
 {
-    (u16_at(v, at) as u32) * 65536 + u16_at(v, at + 2) as u32
+    u32::from_be_bytes([v[at], v[at + 1], v[at + 2], v[at + 3]])
 }
 
 // Type 14: its one byte. Types 1 and 15 are `wire::read_u16`, type 3 `wire::read_u32`. Refusals, here and below: those of `diag_rules::check_value`.
-pub fn read_u8(value: &[u8], place: usize) -> Read8
-    ensures { answer8 result ≡ on_given (λ (v : List ℕ). byte_at v 0) (value_of 14 place value.now) }
+pub fn read_u8(value: &[u8], place: usize) -> Result<u8, Refusal>
+    ensures { answer_of result ≡ on_given (λ (v : List ℕ). byte_at v 0) (value_of 14 place value.now) }
 {
-    match diag_rules::check_value(diag_rules::BATTERY_LEVEL, value, place) {
-        Judged::Kept => Read8::Value(value[0]),
-        Judged::Refused(r) => Read8::Refused(r),
-    }
+    diag_rules::check_value(diag_rules::BATTERY_LEVEL, value, place)?;
+    Ok(value[0])
 }
 
 // The bits of a mode byte.
@@ -123,13 +70,11 @@ pub fn mode_of(b: u8) -> ModeData
 
 impl ModeData {
     // Type 2.
-    pub fn decode(value: &[u8], place: usize) -> ReadMode
-        ensures { mode_answer result ≡ on_given mode_value (value_of 2 place value.now) }
+    pub fn decode(value: &[u8], place: usize) -> Result<ModeData, Refusal>
+        ensures { answer_of result ≡ on_given mode_value (value_of 2 place value.now) }
     {
-        match diag_rules::check_value(diag_rules::MODE, value, place) {
-            Judged::Kept => ReadMode::Value(mode_of(value[0])),
-            Judged::Refused(r) => ReadMode::Refused(r),
-        }
+        diag_rules::check_value(diag_rules::MODE, value, place)?;
+        Ok(mode_of(value[0]))
     }
 }
 
@@ -147,13 +92,11 @@ fn leader_data_of(v: &[u8]) -> LeaderData
     }
 }
 
-pub fn decode_leader_data(value: &[u8], place: usize) -> ReadLeaderData
-    ensures { leader_answer result ≡ on_given leader_of (value_of 6 place value.now) }
+pub fn decode_leader_data(value: &[u8], place: usize) -> Result<LeaderData, Refusal>
+    ensures { answer_of result ≡ on_given leader_of (value_of 6 place value.now) }
 {
-    match diag_rules::check_value(diag_rules::LEADER_DATA, value, place) {
-        Judged::Kept => ReadLeaderData::Value(leader_data_of(value)),
-        Judged::Refused(r) => ReadLeaderData::Refused(r),
-    }
+    diag_rules::check_value(diag_rules::LEADER_DATA, value, place)?;
+    Ok(leader_data_of(value))
 }
 
 // Type 9.
@@ -174,11 +117,9 @@ fn mac_counters_of(v: &[u8]) -> MacCounters
     }
 }
 
-pub fn decode_mac_counters(value: &[u8], place: usize) -> ReadMacCounters
-    ensures { counters_answer result ≡ on_given counters_of (value_of 9 place value.now) }
+pub fn decode_mac_counters(value: &[u8], place: usize) -> Result<MacCounters, Refusal>
+    ensures { answer_of result ≡ on_given counters_of (value_of 9 place value.now) }
 {
-    match diag_rules::check_value(diag_rules::MAC_COUNTERS, value, place) {
-        Judged::Kept => ReadMacCounters::Value(mac_counters_of(value)),
-        Judged::Refused(r) => ReadMacCounters::Refused(r),
-    }
+    diag_rules::check_value(diag_rules::MAC_COUNTERS, value, place)?;
+    Ok(mac_counters_of(value))
 }

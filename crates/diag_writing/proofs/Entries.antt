@@ -7,19 +7,19 @@ use native.Mathlib.Nat.{add-sub_cancel_left}
 use native.Mathlib.Omega.{arith}
 use lib.ListN.{length, take, drop, length-append}
 use lib.Seq.{length-take-le}
+use Rattle.std.specs.Prelude.{Option, Some, None}
 use Rattle.refusal.specs.Sizes.{most_value}
 use Rattle.refusal.specs.Answer.{Answer, given, absent, on_given}
 use Rattle.laws.proofs.Parts.{length_part}
 use Rattle.refusal.specs.Output.{placing}
+use Rattle.refusal.specs.Results.{option_of}
 use Rattle.tlv_writing.specs.Encode.{header, headed, encode, encode_all, placed_if}
 use Rattle.tlv_writing.proofs.Several.{encode_append}
 use Rattle.record_writing.specs.Values.{Field, field, entry_for, present}
-use Rattle.diag_rows.specs.Rows.{Part, part}
+use Rattle.diag_rows.specs.Rows.{part}
+use Rattle.diag_rows.specs.declared.Part.{Part}
 use Rattle.route64.specs.declared.Route64.{Route64}
-use Rattle.diag.specs.Answers.{opt_part}
 use Rattle.diag.specs.declared.NetDiagData.{NetDiagData}
-use Rattle.diag.specs.declared.OptNetworkData.{OptNetworkData}
-use Rattle.diag.specs.declared.OptNetworkData.TheVariants as n
 use Rattle.diag.specs.declared.NetworkDataPart.{NetworkDataPart}
 use Rattle.writing_walks.specs.declared.Cursor.{Cursor}
 use Rattle.record_writing.specs.Lent.{part_bytes}
@@ -77,12 +77,12 @@ module _ (out : List ℕ) (at : ℕ) (xs : List ℕ) where
   pub empty_wrote : xs ≡ [] → Wrote out at xs at out
   empty_wrote e = rw e (wrote_none out at)
 
-module _ (x : OptNetworkData) (size : ℕ) where
-  pub network_given : (y : NetworkDataPart) → x ≡ n.Some y → network_header x size ≡ header 7 size
+module _ (x : Option NetworkDataPart) (size : ℕ) where
+  pub network_given : (y : NetworkDataPart) → x ≡ Some y → network_header x size ≡ header 7 size
   unfolding network_header
   network_given y e = rw e
 
-  pub network_absent : x ≡ n.None → network_header x size ≡ []
+  pub network_absent : x ≡ None → network_header x size ≡ []
   unfolding network_header
   network_absent e = rw e
 
@@ -128,8 +128,8 @@ before_size r s t size =
     ∙ rw (length-append (fields_bytes (link_fields r t)) (network_header r.network_data size))
 
 pub between_size : (r : NetDiagData) (s : List ℕ)
-    → length (between_bytes r s) ≡ length (fields_bytes (middle_fields r s)) + length (child_header (opt_part r.child_table))
-between_size r s = length-append (fields_bytes (middle_fields r s)) (child_header (opt_part r.child_table))
+    → length (between_bytes r s) ≡ length (fields_bytes (middle_fields r s)) + length (child_header (option_of r.child_table))
+between_size r s = length-append (fields_bytes (middle_fields r s)) (child_header (option_of r.child_table))
 
 module _ (out : List ℕ) (at : ℕ) where
   pub wrote_more : (t : ℕ) (a : Answer (List ℕ)) (fs : List Field) (next last : ℕ) (left done : List ℕ)

@@ -1,24 +1,24 @@
 -- What one pass over each lent table finds.
 -- Assumes nothing.
 use mathlib.Core.Path.{◌≡◌, refl, sym, ap, subst, ◌∙◌}
-use mathlib.Core.Bool.{Bool, true, false}
+use mathlib.Core.Bool.{true, false}
 use mathlib.Core.List.{List, [], ◌∷◌}
-use Prim.Native.Nat.{ℕ, ◌+◌, ◌/◌, ◌≤◌, ◌<◌}
+use Prim.Native.Nat.{ℕ, ◌+◌, ◌/◌, ◌≤◌}
 use native.Mathlib.Omega.{arith}
-use lib.ListN.{length, take, get_or}
+use lib.ListN.{length, take}
 use lib.Seq.{take_all}
 use lib.Dec.{leb}
 use borrow.Author.Tests.{leb-true, leb-false, le-leb}
 use Rattle.refusal.specs.Sizes.{most_has_routes, most_border_routers}
 use Rattle.refusal.specs.Answer.{pick, Answer, given, absent, refused}
 use Rattle.refusal.specs.Each.{all}
+use Rattle.refusal.specs.Results.{option_of}
 use Rattle.laws.proofs.Tests.{by_test}
-use Rattle.tables.specs.Fold.{fold, fold_none, fold_more}
+use Rattle.tables.specs.Fold.{fold}
 use Rattle.tlv_writing.specs.Encode.{entry_size}
 use Rattle.network_data.specs.declared.PrefixEntry.{PrefixEntry}
-use Rattle.diag_rows.specs.Rows.{Part}
+use Rattle.diag_rows.specs.declared.Part.{Part}
 use Rattle.diag_rows.specs.declared.ChildIpv6AddrInfo.{ChildIpv6AddrInfo}
-use Rattle.diag.specs.Answers.{opt_part}
 use Rattle.diag.specs.declared.NetDiagData.{NetDiagData}
 use Rattle.network_writing.specs.Tables.{routes_asked, borders_asked}
 use Rattle.record_writing.specs.Written.{short_list}
@@ -66,29 +66,9 @@ used_within r s ps hs bs cs ls room = record {
   prefixes_in = least_within (counts_in r.network_data).prefixes ps;
   routes_in = least_within (counts_in r.network_data).has_routes hs;
   borders_in = least_within (counts_in r.network_data).border_routers bs;
-  children_in = children_within (opt_part r.child_table) cs;
+  children_in = children_within (option_of r.child_table) cs;
   lists_in = least_within r.child_ipv6_addresses ls;
 }
-
--- ---- a pass over the first n rows: before the first of them, after one more, and after the last
-module _ {A B : Type 0} (g : B → A → B) (b : B) (xs : List A) where
-  pub pass_none : b ≡ fold g b (take 0 xs)
-  pass_none = sym (fold_none g b xs)
-
-  pub pass_more : (i : ℕ) (d : A) (f f' : B) → i < length xs → f ≡ fold g b (take i xs) → f' ≡ g f (get_or xs i d) → f' ≡ fold g b (take (i + 1) xs)
-  pass_more i d f f' h e k = k ∙ ap (λ (z : B). g z (get_or xs i d)) e ∙ sym (fold_more g b xs i d h)
-
-  pub pass_all : (i n : ℕ) (f : B) → i ≤ n → n ≤ i → f ≡ fold g b (take i xs) → f ≡ fold g b (take n xs)
-  pass_all i n f h k e = let z : i ≡ n = omega arith in e ∙ ap (λ (j : ℕ). fold g b (take j xs)) z
-
--- ---- a flag
-module _ {A : Type 0} (f : A → Bool) where
-  pub fold_flag : (ok : Bool) (xs : List A) → fold (λ (b : Bool) (x : A). pick b (f x) false) ok xs ≡ pick ok (all f xs) false
-  unfolding fold all
-  fold_flag true [] = refl
-  fold_flag false [] = refl
-  fold_flag true (x ∷ xs) = fold_flag (f x) xs
-  fold_flag false (x ∷ xs) = fold_flag false xs
 
 -- ---- prefixes
 

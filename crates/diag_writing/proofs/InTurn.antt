@@ -6,16 +6,17 @@ use Prim.Native.Nat.{ℕ, ◌+◌, ◌≤◌}
 use native.Mathlib.Omega.{arith}
 use native.Mathlib.Nat.{zero-add}
 use lib.ListN.{length, take, drop, length-append}
+use Rattle.std.specs.Prelude.{Result}
 use Rattle.refusal.specs.Sizes.{most_value}
 use Rattle.refusal.specs.Every.{Every}
 use Rattle.refusal.specs.Each.{joined}
-use Rattle.refusal.specs.Output.{put, output, emit, written_answer}
-use Rattle.refusal.specs.declared.Written.{Written}
+use Rattle.refusal.specs.Output.{put, output, emit}
+use Rattle.refusal.specs.Results.{answer_of, option_of}
+use Rattle.refusal.specs.declared.Refusal.{Refusal}
 use Rattle.laws.proofs.Puts.{put_then, put_length}
 use Rattle.network_writing.specs.Encode.{network_bytes}
 use Rattle.network_writing.specs.Tables.{prefixes_of, routes_asked, borders_asked}
 use Rattle.value_writing.specs.Encode.{child_bytes}
-use Rattle.diag.specs.Answers.{opt_part}
 use Rattle.diag.specs.declared.NetDiagData.{NetDiagData}
 use Rattle.route64.specs.declared.Route64.{Route64}
 use Rattle.network_data.specs.declared.PrefixEntry.{PrefixEntry}
@@ -38,7 +39,7 @@ begun n = record { at = n; route = 0; border = 0 }
 
 -- what each callee asks for, and what it says
 abbrev pub AsksBefore : NetDiagData → List ℕ → Route64 → ℕ → List ℕ → Type 0
-AsksBefore x s t n o = Placeable x s × Counted (opt_part x.route64) t × (n ≤ most_value) × (length (before_bytes x s t n) ≤ length o)
+AsksBefore x s t n o = Placeable x s × Counted (option_of x.route64) t × (n ≤ most_value) × (length (before_bytes x s t n) ≤ length o)
 
 abbrev pub SaysBefore : NetDiagData → List ℕ → Route64 → ℕ → List ℕ → Cursor → List ℕ → Type 0
 SaysBefore x s t n o z p = (z ≡ begun (length (before_bytes x s t n))) × (p ≡ put o 0 (before_bytes x s t n))
@@ -48,8 +49,8 @@ network t n hs bs c = network_bytes (prefixes_of (take n t) (drop c.route hs) (d
 
 abbrev pub AsksPrefixes : List PrefixEntry → ℕ → List HasRouteEntry → List BorderRouterEntry → List ℕ → Cursor → Type 0
 AsksPrefixes t n hs bs o c =
-    (n ≤ length t) × (c.route + routes_asked (take n t) ≤ length hs) × (c.border + borders_asked (take n t) ≤ length bs) × (c.route + routes_asked (take n t) ≤ 96)
-    × (c.border + borders_asked (take n t) ≤ 96) × (c.at + length (network t n hs bs c) ≤ length o)
+    (n ≤ length t) × ((c.route + routes_asked (take n t) ≤ length hs) × (c.border + borders_asked (take n t) ≤ length bs) × (c.route + routes_asked (take n t) ≤ 96)
+    × (c.border + borders_asked (take n t) ≤ 96) × (c.at + length (network t n hs bs c) ≤ length o))
 
 abbrev pub SaysPrefixes : List PrefixEntry → ℕ → List HasRouteEntry → List BorderRouterEntry → List ℕ → Cursor → Cursor → List ℕ → Type 0
 SaysPrefixes t n hs bs o c z p = (z.at ≡ c.at + length (network t n hs bs c)) × (p ≡ put o c.at (network t n hs bs c))
@@ -57,11 +58,11 @@ SaysPrefixes t n hs bs o c z p = (z.at ≡ c.at + length (network t n hs bs c)) 
 abbrev pub AsksBetween : NetDiagData → List ℕ → List ℕ → Cursor → Type 0
 AsksBetween x s o c = Placeable x s × (c.at + length (between_bytes x s) ≤ length o)
 
-abbrev rows : List ChildTableEntry → ℕ → ℕ → List ℕ
-rows t k n = joined child_bytes (take n (drop k t))
+abbrev rows : List ChildTableEntry → ℕ → List ℕ
+rows t n = joined child_bytes (take n t)
 
-abbrev pub AsksChildren : List ChildTableEntry → ℕ → ℕ → List ℕ → ℕ → Type 0
-AsksChildren t k n o a = (k + n ≤ length t) × (a + length (rows t k n) ≤ length o)
+abbrev pub AsksChildren : List ChildTableEntry → ℕ → List ℕ → ℕ → Type 0
+AsksChildren t n o a = (n ≤ length t) × (a + length (rows t n) ≤ length o)
 
 abbrev pub AsksAfter : NetDiagData → List ℕ → List ℕ → ℕ → Type 0
 AsksAfter x s o a = Placeable x s × (a + length (after_bytes x s) ≤ length o)
@@ -70,7 +71,7 @@ abbrev lists_out : List ChildIpv6AddrInfo → ℕ → List ℕ → List ℕ
 lists_out t n s = joined (list_entry s) (take n t)
 
 abbrev pub AsksLists : List ChildIpv6AddrInfo → ℕ → List ℕ → List ℕ → ℕ → Type 0
-AsksLists t n s o a = (n ≤ length t) × Every (ListLies s) (take n t) × (a + length (lists_out t n s) ≤ length o)
+AsksLists t n s o a = (n ≤ length t) × (Every (ListLies s) (take n t) × (a + length (lists_out t n s) ≤ length o))
 
 -- six pieces, each after the one before
 module _ (o a b c d e f : List ℕ) (room : length (a ++ (b ++ (c ++ (d ++ (e ++ f))))) ≤ length o) where
@@ -156,7 +157,7 @@ module _ (r : NetDiagData) (s : List ℕ) (t : Route64) (ps : List PrefixEntry) 
     pub ask_prefixes : AsksPrefixes ps p.prefixes hs bs o₁ z₁
     ask_prefixes =
         subst (λ (y : Cursor). AsksPrefixes ps p.prefixes hs bs o₁ y) (sym s₁.0)
-        (g.prefixes, omega (arith, g.routes), omega (arith, g.borders), omega (arith, g.few_routes), omega (arith, g.few_borders), room_b o A B C D E F g.room (length A) o₁ refl s₁.1)
+        (g.prefixes, (omega (arith, g.routes), omega (arith, g.borders), omega (arith, g.few_routes), omega (arith, g.few_borders), room_b o A B C D E F g.room (length A) o₁ refl s₁.1))
 
     module _ (z₂ : Cursor) (o₂ : List ℕ) (s₂ : SaysPrefixes ps p.prefixes hs bs o₁ z₁ z₂ o₂) where
       at₂ : z₂.at ≡ z₁.at + length B
@@ -169,8 +170,8 @@ module _ (r : NetDiagData) (s : List ℕ) (t : Route64) (ps : List PrefixEntry) 
       ask_between = (g.placeable, room_c o A B C D E F g.room z₁.at o₁ at₁ s₁.1 z₂.at o₂ at₂ left₂)
 
       module _ (a₃ : ℕ) (o₃ : List ℕ) (s₃ : Wrote o₂ z₂.at C a₃ o₃) where
-        pub ask_children : AsksChildren cs 0 p.children o₃ a₃
-        ask_children = (omega (arith, g.children), room_d o A B C D E F g.room z₁.at o₁ at₁ s₁.1 z₂.at o₂ at₂ left₂ a₃ o₃ s₃.0 s₃.1)
+        pub ask_children : AsksChildren cs p.children o₃ a₃
+        ask_children = (g.children, room_d o A B C D E F g.room z₁.at o₁ at₁ s₁.1 z₂.at o₂ at₂ left₂ a₃ o₃ s₃.0 s₃.1)
 
         module _ (a₄ : ℕ) (o₄ : List ℕ) (s₄ : Wrote o₃ a₃ D a₄ o₄) where
           pub ask_after : AsksAfter x s o₄ a₄
@@ -179,9 +180,9 @@ module _ (r : NetDiagData) (s : List ℕ) (t : Route64) (ps : List PrefixEntry) 
           module _ (a₅ : ℕ) (o₅ : List ℕ) (s₅ : Wrote o₄ a₄ E a₅ o₅) where
             pub ask_lists : AsksLists ls p.lists s o₅ a₅
             ask_lists =
-                (g.lists, g.lists_lie, room_f o A B C D E F g.room z₁.at o₁ at₁ s₁.1 z₂.at o₂ at₂ left₂ a₃ o₃ s₃.0 s₃.1 a₄ o₄ s₄.0 s₄.1 a₅ o₅ s₅.0 s₅.1)
+                (g.lists, (g.lists_lie, room_f o A B C D E F g.room z₁.at o₁ at₁ s₁.1 z₂.at o₂ at₂ left₂ a₃ o₃ s₃.0 s₃.1 a₄ o₄ s₄.0 s₄.1 a₅ o₅ s₅.0 s₅.1))
 
-            pub written_out : (a₆ : ℕ) (o₆ : List ℕ) → Wrote o₅ a₅ F a₆ o₆ → (z : Written) → z ≡ p.answer → output (written_answer z) o₆ ≡ emit (written r l) o
+            pub written_out : (a₆ : ℕ) (o₆ : List ℕ) → Wrote o₅ a₅ F a₆ o₆ → (z : Result ℕ Refusal) → z ≡ p.answer → output (answer_of z) o₆ ≡ emit (written r l) o
             written_out a₆ o₆ s₆ z y =
                 let out = placed o A B C D E F g.room z₁.at o₁ at₁ s₁.1 z₂.at o₂ at₂ left₂ a₃ o₃ s₃.0 s₃.1 a₄ o₄ s₄.0 s₄.1 a₅ o₅ s₅.0 s₅.1 o₆ s₆.1 in
                 rw (y, out) g.leaves

@@ -6,8 +6,10 @@ use Prim.Native.Nat.{ℕ, ◌≤◌}
 use native.Mathlib.Omega.{arith}
 use lib.ListN.{length, take}
 use lib.Seq.{length-take-le}
+use Rattle.std.specs.Prelude.{Option, Some, None}
 use Rattle.refusal.specs.Answer.{Answer, given, absent, refused, on_given}
 use Rattle.refusal.specs.Each.{joined}
+use Rattle.refusal.specs.Results.{option_of}
 use Rattle.laws.proofs.Answers.{on_on}
 use Rattle.tlv_writing.specs.Encode.{encode, encode_all}
 use Rattle.tlv_writing.proofs.Several.{encode_append}
@@ -16,11 +18,9 @@ use Rattle.network_writing.specs.Tables.{prefixes_of, routes_asked, borders_aske
 use Rattle.network_writing.proofs.Agree.{used_rows}
 use Rattle.value_writing.specs.Encode.{route64_bytes, child_bytes, children_bytes}
 use Rattle.value_writing.proofs.Round.{children_size}
-use Rattle.diag_rows.specs.Rows.{Part}
+use Rattle.diag_rows.specs.declared.Part.{Part}
 use Rattle.diag_rows.specs.declared.ChildIpv6AddrInfo.{ChildIpv6AddrInfo}
-use Rattle.diag.specs.Answers.{opt_part}
-use Rattle.diag.specs.declared.OptNetworkData.{OptNetworkData}
-use Rattle.diag.specs.declared.OptNetworkData.TheVariants as n
+use Rattle.diag.specs.declared.NetworkDataPart.{NetworkDataPart}
 use Rattle.diag.specs.declared.NetDiagData.{NetDiagData}
 use Rattle.record_writing.specs.Values.{Field, field, fields, entry_for, present, list_content, entries_of}
 use Rattle.record_writing.specs.Lent.{Lent, route_used, opt_counts, network_of, children_of, list_of, values_of}
@@ -54,14 +54,14 @@ module _ (l : Lent) where
   abbrev prefixes_bytes : ℕ → List ℕ
   prefixes_bytes k = network_bytes (prefixes_of (take k l.prefixes) l.routes l.borders)
 
-  network_field_lem : (x : OptNetworkData) (k size : ℕ) → Rows (opt_counts x) k → routes_asked (take k l.prefixes) ≡ (counts_in x).has_routes
+  network_field_lem : (x : Option NetworkDataPart) (k size : ℕ) → Rows (opt_counts x) k → routes_asked (take k l.prefixes) ≡ (counts_in x).has_routes
       → borders_asked (take k l.prefixes) ≡ (counts_in x).border_routers → size ≡ length (prefixes_bytes k)
       → field_bytes 7 (on_given network_bytes (on_given (network_of l) (opt_counts x))) ≡ network_header x size ++ prefixes_bytes k
   unfolding network_header counts_in encode network_bytes prefixes_of joined
-  network_field_lem (n.Some y) k size rows routes borders e =
+  network_field_lem (Some y) k size rows routes borders e =
       let used = used_rows (take k l.prefixes) l.routes l.borders y.counts.has_routes y.counts.border_routers (omega arith) (omega arith) in
       given_bytes 7 (network_bytes (network_of l y.counts)) ∙ rw (e, used, rows)
-  network_field_lem n.None k size rows routes borders e = absent_bytes 7 ∙ rw rows
+  network_field_lem None k size rows routes borders e = absent_bytes 7 ∙ rw rows
 
   child_field_lem : (q : Answer Part) (k : ℕ) → Thirds q k → k ≤ length l.children
       → field_bytes 16 (on_given children_bytes (on_given (children_of l.children) q)) ≡ child_header q ++ joined child_bytes (take k l.children)
@@ -83,12 +83,12 @@ module _ (r : NetDiagData) (l : Lent) where
   network_field = on_given network_bytes (on_given (network_of l) (opt_counts r.network_data))
 
   abbrev child_field : Answer (List ℕ)
-  child_field = on_given children_bytes (on_given (children_of l.children) (opt_part r.child_table))
+  child_field = on_given children_bytes (on_given (children_of l.children) (option_of r.child_table))
 
   all_fields : fields (values_of r l)
       ≡ first_fields r l.bytes ++ (link_fields r l.route64 ++ (field 7 network_field ∷ (middle_fields r l.bytes ++ (field 16 child_field ∷ last_fields r l.bytes))))
   unfolding values_of
-  all_fields = rw (on_on route64_bytes (λ (q : Part). route_used l.route64) (opt_part r.route64))
+  all_fields = rw (on_on route64_bytes (λ (q : Part). route_used l.route64) (option_of r.route64))
 
   entries_are : encode_all (entries_of (values_of r l))
       ≡ (fields_bytes (first_fields r l.bytes) ++ (fields_bytes (link_fields r l.route64) ++ (field_bytes 7 network_field
@@ -107,5 +107,5 @@ module _ (r : NetDiagData) (l : Lent) where
       ≡ encode_all (entries_of (values_of r l))
   joining room p g =
       let network = network_field_lem l r.network_data p.prefixes p.network g.prefixes g.routes_are g.borders_are g.network in
-      let children = child_field_lem l (opt_part r.child_table) p.children g.children g.children_lent in
+      let children = child_field_lem l (option_of r.child_table) p.children g.children g.children_lent in
       rw (g.lists, entries_are) (rw (network, children) (simp append_assoc))

@@ -9,6 +9,7 @@ use lib.ListN.{length, take, drop, length-append, length-drop, take-append-drop}
 use lib.Seq.{length-take-le}
 use lib.Dec.{leb}
 use borrow.Author.Tests.{le-leb, eqb-true, ne_eqb}
+use Rattle.std.specs.Prelude.{Option, Some, None}
 use Rattle.refusal.specs.Sizes.{most_has_routes, most_border_routers}
 use Rattle.refusal.specs.Answer.{pick}
 use Rattle.refusal.specs.Each.{all, joined}
@@ -16,10 +17,9 @@ use Rattle.laws.proofs.Tests.{by_test}
 use Rattle.laws.proofs.Joined.{joined_append, joined_length}
 use Rattle.network_framing.specs.Tlvs.{bytes_for}
 use Rattle.network_data.specs.declared.PrefixEntry.{PrefixEntry}
+use Rattle.network_data.specs.declared.SixLowPanContext.{SixLowPanContext}
 use Rattle.network_data.specs.declared.HasRouteEntry.{HasRouteEntry}
 use Rattle.network_data.specs.declared.BorderRouterEntry.{BorderRouterEntry}
-use Rattle.network_data.specs.declared.OptContext.{OptContext}
-use Rattle.network_data.specs.declared.OptContext.TheVariants as o
 use Rattle.network_writing.specs.Encode.{item, route_bytes, border_bytes, item_bytes, items_bytes, row_items, context_items, inner_items, prefix_value, prefix_item, network_bytes}
 use Rattle.network_writing.specs.Fits.{most_item, route_fits, border_fits, context_fits, prefix_fits, network_fits}
 use Rattle.network_writing.specs.Tables.{context_of, prefix_of, prefixes_of, routes_asked, borders_asked}
@@ -48,10 +48,10 @@ rows_size_lem m k enc size [] = rows_none (0 * k)
 rows_size_lem m k enc size (x ∷ xs) =
     item_size m (joined enc (x ∷ xs)) ∙ ap (λ (n : ℕ). 2 + n) (joined_length k enc size (x ∷ xs)) ∙ sym (rows_some (length xs) (length (x ∷ xs) * k))
 
-context_size_lem : (x : OptContext) → length (items_bytes (context_items (context_of x))) ≡ context_size x
+context_size_lem : (x : Option SixLowPanContext) → length (items_bytes (context_items (context_of x))) ≡ context_size x
 unfolding context_items context_size joined
-context_size_lem (o.Some c) = refl
-context_size_lem o.None = refl
+context_size_lem (Some c) = refl
+context_size_lem None = refl
 
 route_three : (h : HasRouteEntry) → length (route_bytes h) ≡ 3
 unfolding route_bytes

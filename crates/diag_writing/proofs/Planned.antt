@@ -9,11 +9,13 @@ use lib.ListN.{length, take}
 use lib.Seq.{length-take-le}
 use lib.Dec.{leb, eqb}
 use borrow.Author.Tests.{leb-true, leb-false, eqb-true, le-leb, le-ltb}
+use Rattle.std.specs.Prelude.{Option, Some, None}
 use Rattle.refusal.specs.Sizes.{most_bytes, most_entries, most_value, most_has_routes, most_border_routers}
 use Rattle.refusal.specs.Answer.{pick, Answer, given, absent, refused, on_given}
 use Rattle.refusal.specs.Each.{all}
 use Rattle.refusal.specs.Every.{Every}
-use Rattle.refusal.specs.Output.{Output, output, emit, written_answer}
+use Rattle.refusal.specs.Output.{Output, output, emit}
+use Rattle.refusal.specs.Results.{answer_of, option_of}
 use Rattle.laws.proofs.Tests.{by_test}
 use Rattle.laws.proofs.Emits.{emit_refused, emit_no_room}
 use Rattle.tables.specs.Fold.{fold}
@@ -22,11 +24,9 @@ use Rattle.tlv_writing.proofs.Encodes.{size_bound}
 use Rattle.tlv_writing.proofs.Several.{sized_bytes, sized_count, sized_is}
 use Rattle.network_data.specs.declared.Counts.{Counts}
 use Rattle.route64.specs.declared.Route64.{Route64}
-use Rattle.diag_rows.specs.Rows.{Part}
+use Rattle.diag_rows.specs.declared.Part.{Part}
 use Rattle.diag_rows.specs.declared.ChildIpv6AddrInfo.{ChildIpv6AddrInfo}
-use Rattle.diag.specs.Answers.{opt_part}
-use Rattle.diag.specs.declared.OptNetworkData.{OptNetworkData}
-use Rattle.diag.specs.declared.OptNetworkData.TheVariants as n
+use Rattle.diag.specs.declared.NetworkDataPart.{NetworkDataPart}
 use Rattle.diag.specs.declared.NetDiagData.{NetDiagData}
 use Rattle.network_writing.specs.Encode.{network_bytes}
 use Rattle.network_writing.specs.Fits.{route_fits, border_fits}
@@ -36,8 +36,8 @@ use Rattle.record_writing.specs.Fits.{passes, values_fit}
 use Rattle.record_writing.specs.Lent.{Lent, opt_counts, network_of, values_of}
 use Rattle.record_writing.specs.Written.{short_part, short_list, parts_short, lists_of, lengths_fit, counts_fit, list_inside, routes_counted, agrees, written}
 use Rattle.diag_writing.specs.Pieces.{Lies, ListLies, Counted, Short}
-use Rattle.diag_writing.specs.Checks.{entry_fits, passed_prefix}
-use Rattle.writing_plans.specs.Used.{counts_in, children_used, no_prefixes}
+use Rattle.diag_writing.specs.Checks.{no_prefixes, entry_fits, passed_prefix}
+use Rattle.writing_plans.specs.Used.{counts_in, children_used}
 use Rattle.writing_plans.specs.Tests.{lengths_by, inside_by, tables_by, children_by, eight_by, fits_by}
 use Rattle.writing_plans.specs.Sizes.{network_size, fixed_size, fixed_count, total_size}
 use Rattle.writing_plans.specs.Plans.{Planning, plan_paper, stopped, sized_by, plan_by}
@@ -79,7 +79,7 @@ net_size (given c) k = size_of k
 net_size absent k = 0
 net_size (refused m p i) k = 0
 
-record Net (l : Lent) (f : Prefixes) (y : OptNetworkData) : Type 0 where
+record Net (l : Lent) (f : Prefixes) (y : Option NetworkDataPart) : Type 0 where
   pub rows : Rows (opt_counts y) (counts_in y).prefixes
   pub lent : (counts_in y).prefixes ≤ length l.prefixes
   pub routes : routes_asked (take (counts_in y).prefixes l.prefixes) ≡ (counts_in y).has_routes
@@ -95,10 +95,10 @@ record Net (l : Lent) (f : Prefixes) (y : OptNetworkData) : Type 0 where
 
 module _ (l : Lent) (x : Used) (f : Prefixes) (h b : Bool) (ps : x.prefixes_lent ≡ length l.prefixes)
     (hs : x.routes_lent ≡ length l.routes) (bs : x.borders_lent ≡ length l.borders) where
-  net : (y : OptNetworkData) → f ≡ fold passed_prefix no_prefixes (take (counts_in y).prefixes l.prefixes) → h ≡ all route_fits (take (counts_in y).has_routes l.routes)
+  net : (y : Option NetworkDataPart) → f ≡ fold passed_prefix no_prefixes (take (counts_in y).prefixes l.prefixes) → h ≡ all route_fits (take (counts_in y).has_routes l.routes)
       → b ≡ all border_fits (take (counts_in y).border_routers l.borders) → passes counts_fit (opt_counts y) ≡ true → passes (tables_by x f h b) (opt_counts y) ≡ true → Net l f y
   unfolding passes counts_in net_size field_size fold routes_asked borders_asked prefixes_size all
-  net (n.Some z) fis his bis small ok =
+  net (Some z) fis his bis small ok =
       let c = z.counts in
       let t = found l x f h b c ps hs bs small fis his bis ok in
       let k = few_counts c small in
@@ -121,7 +121,7 @@ module _ (l : Lent) (x : Used) (f : Prefixes) (h b : Bool) (ps : x.prefixes_lent
         field = ap size_of (network_size_lem used rs ts t.fit (omega (arith, t.routes)) (omega (arith, t.borders)));
         bound = let w = size_bound (prefixes_size used) in omega arith;
       }
-  net n.None fis his bis small ok =
+  net None fis his bis small ok =
       record {
         rows = refl;
         lent = omega arith;
@@ -265,7 +265,7 @@ module _ (r : NetDiagData) (l : Lent) (t : Route64) (x : Used) (f : Prefixes) (h
           child_table_short = shorts.child_table;
           channel_pages_short = shorts.channel_pages;
           type_list_short = shorts.type_list;
-          eui64_short = eight_short (opt_part r.eui64) good.eight;
+          eui64_short = eight_short (option_of r.eui64) good.eight;
           counted = asked.counted;
           children = asked.children_are;
           lists = lie;
@@ -316,7 +316,7 @@ module _ (r : NetDiagData) (l : Lent) (t : Route64) (x : Used) (f : Prefixes) (h
       going = record { answer = given (total_size r t f ls); go = true; prefixes = x.prefixes; network = f.size; children = x.children; lists = x.lists }
 
       module _ (e : plan_paper q ≡ going) (room : total_size r t f ls ≤ x.room) where
-        answers : written_answer q.answer ≡ given (length bytes)
+        answers : answer_of q.answer ≡ given (length bytes)
         answers = ap (λ (y : Planning). y.answer) e ∙ ap given total
 
         goes : Goes r l x.room q
@@ -326,7 +326,7 @@ module _ (r : NetDiagData) (l : Lent) (t : Route64) (x : Used) (f : Prefixes) (h
             let nn = ap (λ (y : Planning). y.network) e in
             let cn = ap (λ (y : Planning). y.children) e in
             let ln = ap (λ (y : Planning). y.lists) e ∙ lists_count in
-            let th = thirds x c (opt_part r.child_table) q.children (length l.children) (g.children_lent r l t x f h b c ls s) good.children (cn ∙ g.children_used_lem r l t x f h b c ls s) in
+            let th = thirds x c (option_of r.child_table) q.children (length l.children) (g.children_lent r l t x f h b c ls s) good.children (cn ∙ g.children_used_lem r l t x f h b c ls s) in
             let used = take (counts_in r.network_data).prefixes l.prefixes in
             let short : prefixes_size used ≤ most_bytes = omega (arith, total, size_is, network.bound) in
             let size = network.near.small short in
@@ -336,14 +336,14 @@ module _ (r : NetDiagData) (l : Lent) (t : Route64) (x : Used) (f : Prefixes) (h
               fits = omega (arith, total);
               answer = answers;
               placeable = record {
-                ext_mac_addr = lies l.bytes (opt_part r.ext_mac_addr) i.ext_mac_addr shorts.ext_mac_addr;
-                addresses = lies l.bytes (opt_part r.addresses) i.addresses shorts.addresses;
-                channel_pages = lies l.bytes (opt_part r.channel_pages) i.channel_pages shorts.channel_pages;
-                type_list = lies l.bytes (opt_part r.type_list) i.type_list shorts.type_list;
-                eui64 = lies l.bytes (opt_part r.eui64) i.eui64 (eight_short (opt_part r.eui64) good.eight);
-                children = short_part_lem (opt_part r.child_table) shorts.child_table;
+                ext_mac_addr = lies l.bytes (option_of r.ext_mac_addr) i.ext_mac_addr shorts.ext_mac_addr;
+                addresses = lies l.bytes (option_of r.addresses) i.addresses shorts.addresses;
+                channel_pages = lies l.bytes (option_of r.channel_pages) i.channel_pages shorts.channel_pages;
+                type_list = lies l.bytes (option_of r.type_list) i.type_list shorts.type_list;
+                eui64 = lies l.bytes (option_of r.eui64) i.eui64 (eight_short (option_of r.eui64) good.eight);
+                children = short_part_lem (option_of r.child_table) shorts.child_table;
               };
-              counted = counted l.route64 (opt_part r.route64) sixty_lent asked.counted;
+              counted = counted l.route64 (option_of r.route64) sixty_lent asked.counted;
               prefixes = rw pn network.rows;
               prefixes_lent = rw pn network.lent;
               routes_are = rw pn network.routes;

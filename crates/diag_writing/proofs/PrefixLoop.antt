@@ -1,4 +1,4 @@
--- The loop that stores the prefixes of a table one after the other: what holds after i of n prefixes.
+-- The loop that stores prefixes one after the other: what holds after i of them.
 -- Assumes nothing.
 use mathlib.Core.Path.{◌≡◌, refl, sym, ap, ◌∙◌, subst}
 use mathlib.Core.List.{List, [], ◌∷◌, ◌++◌}
@@ -18,6 +18,7 @@ use Rattle.network_writing.specs.Encode.{network_bytes}
 use Rattle.network_writing.specs.Tables.{prefixes_of, routes_asked, borders_asked}
 use Rattle.diag_writing.specs.Pieces.{prefix_bytes}
 use Rattle.writing_walks.specs.declared.Cursor.{Cursor}
+use Rattle.diag_writing.proofs.RowLoop.{none_left}
 
 -- ---- the rows that the first prefixes ask for
 
@@ -31,59 +32,50 @@ unfolding borders_asked
 borders_of [] x = omega arith
 borders_of (y ∷ xs) x = omega (arith, borders_of xs x)
 
-routes_most : (T : List PrefixEntry) (m n : ℕ) → m ≤ n → routes_asked (take m T) ≤ routes_asked (take n T)
+routes_most : (T : List PrefixEntry) (m : ℕ) → routes_asked (take m T) ≤ routes_asked T
 unfolding routes_asked
-routes_most T zero n h = omega arith
-routes_most T (suc m) zero h = absurd (omega arith)
-routes_most [] (suc m) (suc n) h = omega arith
-routes_most (x ∷ T) (suc m) (suc n) h = omega (arith, routes_most T m n (omega arith))
+routes_most T zero = omega arith
+routes_most [] (suc m) = omega arith
+routes_most (x ∷ T) (suc m) = omega (arith, routes_most T m)
 
-borders_most : (T : List PrefixEntry) (m n : ℕ) → m ≤ n → borders_asked (take m T) ≤ borders_asked (take n T)
+borders_most : (T : List PrefixEntry) (m : ℕ) → borders_asked (take m T) ≤ borders_asked T
 unfolding borders_asked
-borders_most T zero n h = omega arith
-borders_most T (suc m) zero h = absurd (omega arith)
-borders_most [] (suc m) (suc n) h = omega arith
-borders_most (x ∷ T) (suc m) (suc n) h = omega (arith, borders_most T m n (omega arith))
+borders_most T zero = omega arith
+borders_most [] (suc m) = omega arith
+borders_most (x ∷ T) (suc m) = omega (arith, borders_most T m)
 
 none_asked : (routes_asked [] ≡ 0) × (borders_asked [] ≡ 0)
 unfolding routes_asked borders_asked
 none_asked = (refl, refl)
 
-module _ (T : List PrefixEntry) (n : ℕ) (R : List HasRouteEntry) (B : List BorderRouterEntry) (c : Cursor) (o : List ℕ) where
+module _ (T : List PrefixEntry) (R : List HasRouteEntry) (B : List BorderRouterEntry) (c : Cursor) (o : List ℕ) where
   -- the prefixes that are left, stored from here on, make of the output what all of them make of it
   abbrev pub PrefixInv : (i : ℕ) (d : Cursor) (p : List ℕ) → Type 0
   PrefixInv i d p =
       (d.route ≡ c.route + routes_asked (take i T)) × (d.border ≡ c.border + borders_asked (take i T))
-      × (d.at + length (network_bytes (prefixes_of (take (n - i) (drop i T)) (drop d.route R) (drop d.border B)))
-      ≡ c.at + length (network_bytes (prefixes_of (take n T) (drop c.route R) (drop c.border B))))
-      × (put p d.at (network_bytes (prefixes_of (take (n - i) (drop i T)) (drop d.route R) (drop d.border B)))
-      ≡ put o c.at (network_bytes (prefixes_of (take n T) (drop c.route R) (drop c.border B))))
+      × (d.at + length (network_bytes (prefixes_of (drop i T) (drop d.route R) (drop d.border B)))
+      ≡ c.at + length (network_bytes (prefixes_of T (drop c.route R) (drop c.border B))))
+      × (put p d.at (network_bytes (prefixes_of (drop i T) (drop d.route R) (drop d.border B)))
+      ≡ put o c.at (network_bytes (prefixes_of T (drop c.route R) (drop c.border B))))
       × (length p ≡ length o)
 
   abbrev bytes_of : List PrefixEntry → (r s : ℕ) → List ℕ
   bytes_of es r s = network_bytes (prefixes_of es (drop r R) (drop s B))
 
   pub prefixes_start : PrefixInv 0 c o
-  prefixes_start =
-      let z : n - 0 ≡ n = omega arith in
-      let all : take (n - 0) T ≡ take n T = ap (λ (k : ℕ). take k T) z in
-      (omega (arith, none_asked.0), omega (arith, none_asked.1), ap (λ (l : List PrefixEntry). c.at + length (bytes_of l c.route c.border)) all, ap (λ (l : List PrefixEntry). put o c.at (bytes_of l c.route c.border)) all, refl)
+  prefixes_start = (omega (arith, none_asked.0), omega (arith, none_asked.1), refl, refl, refl)
 
   nothing : (r s : ℕ) → bytes_of [] r s ≡ []
   unfolding network_bytes prefixes_of joined
   nothing r s = refl
 
-  pub prefixes_end : (d : Cursor) (p : List ℕ) → PrefixInv n d p → (d.at ≡ c.at + length (bytes_of (take n T) c.route c.border)) × (p ≡ put o c.at (bytes_of (take n T) c.route c.border))
-  prefixes_end d p h =
-      let z : n - n ≡ 0 = omega arith in
-      let none : bytes_of (take (n - n) (drop n T)) d.route d.border ≡ [] = ap (λ (k : ℕ). bytes_of (take k (drop n T)) d.route d.border) z ∙ nothing d.route d.border in
+  pub prefixes_done : (i : ℕ) → length T ≤ i → (d : Cursor) (p : List ℕ) → PrefixInv i d p
+      → (d.at ≡ c.at + length (bytes_of T c.route c.border)) × (p ≡ put o c.at (bytes_of T c.route c.border))
+  prefixes_done i k d p h =
+      let none : bytes_of (drop i T) d.route d.border ≡ [] = ap (λ (l : List PrefixEntry). bytes_of l d.route d.border) (none_left T i k) ∙ nothing d.route d.border in
       (omega (arith, h.2, ap length none), sym (put_none p d.at) ∙ ap (put p d.at) (sym none) ∙ h.3)
 
-  pub prefixes_done : (i : ℕ) → i ≤ n → n ≤ i → (d : Cursor) (p : List ℕ) → PrefixInv i d p
-      → (d.at ≡ c.at + length (bytes_of (take n T) c.route c.border)) × (p ≡ put o c.at (bytes_of (take n T) c.route c.border))
-  prefixes_done i h k d p v = let e : i ≡ n = omega arith in prefixes_end d p (subst (λ (j : ℕ). PrefixInv j d p) e v)
-
-  module _ (fits : n ≤ length T) (none : PrefixEntry) (i : ℕ) (more : i < n) (d : Cursor) (p : List ℕ) (h : PrefixInv i d p) where
+  module _ (none : PrefixEntry) (i : ℕ) (more : i < length T) (d : Cursor) (p : List ℕ) (h : PrefixInv i d p) where
     abbrev e : PrefixEntry
     e = get_or T i none
 
@@ -91,40 +83,38 @@ module _ (T : List PrefixEntry) (n : ℕ) (R : List HasRouteEntry) (B : List Bor
     one = prefix_bytes e R d.route B d.border
 
     abbrev later : List ℕ
-    later = bytes_of (take (n - (i + 1)) (drop (i + 1) T)) (d.route + e.has_routes) (d.border + e.border_routers)
+    later = bytes_of (drop (i + 1) T) (d.route + e.has_routes) (d.border + e.border_routers)
 
-    one_more : take (n - i) (drop i T) ≡ e ∷ take (n - (i + 1)) (drop (i + 1) T)
-    one_more =
-        let a : n - i ≡ suc (n - (i + 1)) = omega arith in
-        rw (a, add-one i, drop-cons T i none (omega arith))
+    one_more : drop i T ≡ e ∷ drop (i + 1) T
+    one_more = rw (add-one i, drop-cons T i none more)
 
-    left_more : bytes_of (take (n - i) (drop i T)) d.route d.border ≡ one ++ later
+    left_more : bytes_of (drop i T) d.route d.border ≡ one ++ later
     unfolding network_bytes prefixes_of joined
     left_more =
         ap (λ (l : List PrefixEntry). network_bytes (prefixes_of l (drop d.route R) (drop d.border B))) one_more
-        ∙ ap (λ (l : List HasRouteEntry). one ++ network_bytes (prefixes_of (take (n - (i + 1)) (drop (i + 1) T)) l (drop e.border_routers (drop d.border B)))) (drop-drop e.has_routes d.route R)
-        ∙ ap (λ (l : List BorderRouterEntry). one ++ network_bytes (prefixes_of (take (n - (i + 1)) (drop (i + 1) T)) (drop (d.route + e.has_routes) R) l)) (drop-drop e.border_routers d.border B)
+        ∙ ap (λ (l : List HasRouteEntry). one ++ network_bytes (prefixes_of (drop (i + 1) T) l (drop e.border_routers (drop d.border B)))) (drop-drop e.has_routes d.route R)
+        ∙ ap (λ (l : List BorderRouterEntry). one ++ network_bytes (prefixes_of (drop (i + 1) T) (drop (d.route + e.has_routes) R) l)) (drop-drop e.border_routers d.border B)
 
-    left_length : d.at + (length one + length later) ≡ c.at + length (bytes_of (take n T) c.route c.border)
+    left_length : d.at + (length one + length later) ≡ c.at + length (bytes_of T c.route c.border)
     left_length = ap (◌+◌ d.at) (sym (length-append one later) ∙ ap length (sym left_more)) ∙ h.2
 
     routes_next : d.route + e.has_routes ≡ c.route + routes_asked (take (i + 1) T)
     routes_next =
-        let t : routes_asked (take (i + 1) T) ≡ routes_asked (take i T) + e.has_routes = rw (add-one i, take-suc T i none (omega arith)) (routes_of (take i T) e) in
+        let t : routes_asked (take (i + 1) T) ≡ routes_asked (take i T) + e.has_routes = rw (add-one i, take-suc T i none more) (routes_of (take i T) e) in
         omega (arith, h.0)
 
     borders_next : d.border + e.border_routers ≡ c.border + borders_asked (take (i + 1) T)
     borders_next =
-        let t : borders_asked (take (i + 1) T) ≡ borders_asked (take i T) + e.border_routers = rw (add-one i, take-suc T i none (omega arith)) (borders_of (take i T) e) in
+        let t : borders_asked (take (i + 1) T) ≡ borders_asked (take i T) + e.border_routers = rw (add-one i, take-suc T i none more) (borders_of (take i T) e) in
         omega (arith, h.1)
 
-    pub prefixes_need : c.route + routes_asked (take n T) ≤ length R → c.border + borders_asked (take n T) ≤ length B → c.route + routes_asked (take n T) ≤ most_has_routes
-        → c.border + borders_asked (take n T) ≤ most_border_routers → c.at + length (bytes_of (take n T) c.route c.border) ≤ length o
+    pub prefixes_need : c.route + routes_asked T ≤ length R → c.border + borders_asked T ≤ length B → c.route + routes_asked T ≤ most_has_routes
+        → c.border + borders_asked T ≤ most_border_routers → c.at + length (bytes_of T c.route c.border) ≤ length o
         → (d.route + e.has_routes ≤ length R) × (d.border + e.border_routers ≤ length B) × (d.route + e.has_routes ≤ most_has_routes)
         × (d.border + e.border_routers ≤ most_border_routers) × (d.at + length one ≤ length p)
     prefixes_need r s q k room =
-        let x = routes_most T (i + 1) n (omega arith) in
-        let y = borders_most T (i + 1) n (omega arith) in
+        let x = routes_most T (i + 1) in
+        let y = borders_most T (i + 1) in
         (omega (arith, routes_next), omega (arith, borders_next), omega (arith, routes_next), omega (arith, borders_next), omega (arith, left_length, h.4))
 
     pub prefixes_turn : (d' : Cursor) (p' : List ℕ) → d' ≡ record { at = d.at + length one; route = d.route + e.has_routes; border = d.border + e.border_routers } → p' ≡ put p d.at one → PrefixInv (i + 1) d' p'

@@ -12,6 +12,7 @@ use borrow.Author.Tests.{eqb-true, eqb-false, eq-eqb, ne_eqb}
 use mir.Val.{Val}
 use denote.Laws.{Is}
 use denote.Struct.Laws as LL
+use Rattle.std.specs.Prelude.{Option, Some, None}
 use Rattle.refusal.specs.Output.{put, placing, placed}
 use Rattle.refusal.specs.Each.{bit, joined}
 use Rattle.laws.proofs.Tests.{by_test}
@@ -24,8 +25,6 @@ use Rattle.network_data.specs.declared.HasRouteEntry.{HasRouteEntry}
 use Rattle.network_data.specs.declared.BorderRouterEntry.{BorderRouterEntry}
 use Rattle.network_data.specs.declared.PrefixEntry.{PrefixEntry}
 use Rattle.network_data.specs.declared.SixLowPanContext.{SixLowPanContext}
-use Rattle.network_data.specs.declared.OptContext.{OptContext}
-use Rattle.network_data.specs.declared.OptContext.TheVariants as o
 use Rattle.network_data.specs.contracts.PrefixEntry as E
 use Rattle.network_data.proofs.PrefixEntry.TheLaws as E'
 use Rattle.network_writing.specs.Encode.{route_bytes, border_bytes, item_bytes, items_bytes, row_items, context_items, inner_items, prefix_value}
@@ -59,12 +58,12 @@ module _ (m n bytes : ℕ) where
   mark_some h = rw (ne_eqb n 0 h)
 
 -- ---- its context
-module _ (y : OptContext) where
-  pub context_none : y ≡ o.None → items_bytes (context_items (context_of y)) ≡ []
+module _ (y : Option SixLowPanContext) where
+  pub context_none : y ≡ None → items_bytes (context_items (context_of y)) ≡ []
   unfolding context_items joined
   context_none e = rw e
 
-  module _ (c : SixLowPanContext) (told : y ≡ o.Some c) where
+  module _ (c : SixLowPanContext) (told : y ≡ Some c) where
     pub context_length : length (items_bytes (context_items (context_of y))) ≡ 4
     unfolding context_items joined
     context_length = rw told
@@ -152,10 +151,10 @@ module _ {A : Type 0} (m k : ℕ) (enc : A → List ℕ) (size : (x : A) → len
         none_size : {j : ℕ} → n ≡ 0 → j ≡ n * k → 0 ≡ j
         none_size z e = sym (e ∙ ap (λ (i : ℕ). i * k) z ∙ omega arith)
 
-context_size_lem : (x : OptContext) → context_size x ≡ length (items_bytes (context_items (context_of x)))
+context_size_lem : (x : Option SixLowPanContext) → context_size x ≡ length (items_bytes (context_items (context_of x)))
 unfolding context_size context_items joined
-context_size_lem (o.Some c) = refl
-context_size_lem o.None = refl
+context_size_lem (Some c) = refl
+context_size_lem None = refl
 
 -- ---- the inner TLVs of a prefix, one kind after the other
 module _ (p : Prefix) where

@@ -8,7 +8,8 @@ use lib.ListN.{length, take}
 use Rattle.refusal.specs.Sizes.{most_value}
 use Rattle.refusal.specs.Every.{Every}
 use Rattle.refusal.specs.Each.{joined}
-use Rattle.refusal.specs.Output.{output, emit, written_answer, put}
+use Rattle.refusal.specs.Output.{output, emit, put}
+use Rattle.refusal.specs.Results.{answer_of, option_of}
 use Rattle.laws.proofs.Tests.{pick_all}
 use Rattle.laws.proofs.Puts.{put_none}
 use Rattle.laws.proofs.Emits.{emit_done}
@@ -16,7 +17,6 @@ use Rattle.tlv_writing.specs.Encode.{encode_all}
 use Rattle.network_writing.specs.Encode.{network_bytes}
 use Rattle.network_writing.specs.Tables.{prefixes_of, routes_asked, borders_asked}
 use Rattle.value_writing.specs.Encode.{child_bytes}
-use Rattle.diag.specs.Answers.{opt_part}
 use Rattle.diag.specs.declared.NetDiagData.{NetDiagData}
 use Rattle.record_writing.specs.Values.{entry_for, present, entries_of}
 use Rattle.record_writing.specs.Lent.{Lent, values_of}
@@ -44,7 +44,7 @@ module _ (x : NetDiagData) (l : Lent) (p : Plan) where
 
   pub record Ready (r : NetDiagData) (o : List ℕ) : Type 0 where
     pub placeable : Placeable x l.bytes
-    pub counted : Counted (opt_part x.route64) l.route64
+    pub counted : Counted (option_of x.route64) l.route64
     pub network : p.network ≤ most_value
     pub prefixes : p.prefixes ≤ length l.prefixes
     pub routes : routes_asked (take p.prefixes l.prefixes) ≤ length l.routes
@@ -55,7 +55,7 @@ module _ (x : NetDiagData) (l : Lent) (p : Plan) where
     pub lists : p.lists ≤ length l.lists
     pub lists_lie : Every (ListLies l.bytes) (take p.lists l.lists)
     pub room : length pieces ≤ length o
-    pub leaves : output (written_answer p.answer) (put o 0 pieces) ≡ emit (written r l) o
+    pub leaves : output (answer_of p.answer) (put o 0 pieces) ≡ emit (written r l) o
 
 module _ (r : NetDiagData) (l : Lent) (p : Plan) (o : List ℕ) where
   going : Goes r l (length o) p → Ready r l p r o
@@ -106,7 +106,7 @@ module _ (r : NetDiagData) (l : Lent) (p : Plan) (o : List ℕ) where
       lists = omega (arith, s.lists);
       lists_lie = rw s.lists tt;
       room = omega (arith, ap length no_pieces);
-      leaves = ap (λ (bs : List ℕ). output (written_answer p.answer) (put o 0 bs)) no_pieces ∙ rw (put_none o 0) (s.emits o refl);
+      leaves = ap (λ (bs : List ℕ). output (answer_of p.answer) (put o 0 bs)) no_pieces ∙ rw (put_none o 0) (s.emits o refl);
     }
 
   pub ready : Planned r l (length o) p → Ready (chosen_of p r) l p r o

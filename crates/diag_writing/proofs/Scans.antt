@@ -5,6 +5,7 @@ use mathlib.Core.Bool.{Bool}
 use mathlib.Core.List.{List}
 use Prim.Native.Nat.{ℕ}
 use lib.ListN.{length, take}
+use Rattle.refusal.specs.Each.{all}
 use Rattle.tables.specs.Fold.{fold}
 use Rattle.diag.specs.declared.NetDiagData.{NetDiagData}
 use Rattle.route64.specs.declared.Route64.{Route64}
@@ -14,8 +15,10 @@ use Rattle.network_data.specs.declared.BorderRouterEntry.{BorderRouterEntry}
 use Rattle.diag_rows.specs.declared.ChildTableEntry.{ChildTableEntry}
 use Rattle.diag_rows.specs.declared.ChildIpv6AddrInfo.{ChildIpv6AddrInfo}
 use Rattle.record_writing.specs.Lent.{lent}
-use Rattle.diag_writing.specs.Checks.{passed_route, passed_border, passed_child, passed_prefix, passed_list}
-use Rattle.writing_plans.specs.Used.{no_prefixes, no_lists, used_of}
+use Rattle.network_writing.specs.Fits.{route_fits, border_fits}
+use Rattle.value_writing.specs.Fits.{child_fits}
+use Rattle.diag_writing.specs.Checks.{no_prefixes, no_lists, passed_prefix, passed_list}
+use Rattle.writing_plans.specs.Used.{used_of}
 use Rattle.diag_writing.specs.Plans.{Planned, Judged}
 use Rattle.writing_walks.specs.declared.Prefixes.{Prefixes}
 use Rattle.writing_walks.specs.declared.Lists.{Lists}
@@ -34,26 +37,18 @@ module _ (r : NetDiagData) (n : ℕ) (t : Route64) (ps : List PrefixEntry) (hs :
   unfolding used_of
   room_is = ap (λ (x : Used). x.room) is
 
-  none_is : no_prefixes ≡ u.no_prefixes
-  unfolding used_of
-  none_is = sym (ap (λ (x : Used). x.no_prefixes) is)
-
-  empty_is : no_lists n ≡ u.no_lists
-  unfolding used_of
-  empty_is = sym (ap (λ (x : Used). x.no_lists) is)
-
-  pub planned : (f₀ f : Prefixes) (h b c : Bool) (g₀ g : Lists) (z : Plan) → f₀ ≡ no_prefixes → f ≡ fold passed_prefix f₀ (take u.prefixes ps)
-      → h ≡ fold passed_route u.fits (take u.routes hs) → b ≡ fold passed_border u.fits (take u.borders bs) → c ≡ fold passed_child u.fits (take u.children cs)
-      → g₀ ≡ no_lists n → g ≡ fold passed_list g₀ (take u.lists ls) → Judged r t u f h b c g z → (s : List ℕ) → length s ≡ n → Planned r (lent s t ps hs bs cs ls) room z
-  planned f₀ f h b c g₀ g z a d e k m i j judged s size =
+  pub planned : (f : Prefixes) (h b c : Bool) (g : Lists) (z : Plan) → f ≡ fold passed_prefix no_prefixes (take u.prefixes ps) → h ≡ all route_fits (take u.routes hs)
+      → b ≡ all border_fits (take u.borders bs) → c ≡ all child_fits (take u.children cs) → g ≡ fold passed_list (no_lists n) (take u.lists ls)
+      → Judged r t u f h b c g z → (s : List ℕ) → length s ≡ n → Planned r (lent s t ps hs bs cs ls) room z
+  planned f h b c g z d e k m j judged s size =
       subst (λ (y : ℕ). Planned r (lent s t ps hs bs cs ls) y z) room_is
       (judged (lent s t ps hs bs cs ls) (record {
         used = is ∙ ap (λ (y : ℕ). used_of r y (length ps) (length hs) (length bs) (length cs) (length ls) room) (sym size)
             ∙ ap (λ (y : ℕ). used_of r (length s) (length ps) (length hs) (length bs) (length cs) (length ls) y) (sym room_is);
         route64 = refl;
-        prefixes = d ∙ ap (λ (y : Prefixes). fold passed_prefix y (take u.prefixes ps)) (a ∙ none_is);
+        prefixes = d;
         routes = e;
         borders = k;
         children = m;
-        lists = j ∙ ap (λ (y : Lists). fold passed_list y (take u.lists ls)) (i ∙ empty_is);
+        lists = j ∙ ap (λ (y : ℕ). fold passed_list (no_lists y) (take u.lists ls)) (sym size);
       }))

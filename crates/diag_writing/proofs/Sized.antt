@@ -11,6 +11,7 @@ use borrow.Author.Tests.{leb-true, le-leb, eqb-true}
 use Rattle.refusal.specs.Sizes.{most_value}
 use Rattle.refusal.specs.Answer.{Answer, given, absent, refused, on_given}
 use Rattle.refusal.specs.Every.{Every}
+use Rattle.refusal.specs.Results.{option_of}
 use Rattle.laws.proofs.Parts.{length_part}
 use Rattle.wire_bytes.specs.Bytes.{bytes_of}
 use Rattle.tlv_writing.specs.Encode.{encode, size_of, entry_size, encode_all}
@@ -18,11 +19,10 @@ use Rattle.tlv_writing.proofs.Encodes.{length_encode}
 use Rattle.tlv_writing.proofs.Several.{encode_append}
 use Rattle.connectivity.specs.Connectivity.{ConnectivityValue}
 use Rattle.route64.specs.declared.Route64.{Route64}
-use Rattle.diag_values.specs.Answers.{opt_answer8, opt_answer16}
-use Rattle.diag_rows.specs.Rows.{Part}
+use Rattle.diag_rows.specs.declared.Part.{Part}
 use Rattle.diag_rows.specs.declared.ChildTableEntry.{ChildTableEntry}
 use Rattle.diag_rows.specs.declared.ChildIpv6AddrInfo.{ChildIpv6AddrInfo}
-use Rattle.diag.specs.Answers.{opt_answer32, opt_mode, opt_connectivity, opt_leader_data, opt_mac_counters, opt_part}
+use Rattle.diag.specs.Answers.{opt_connectivity}
 use Rattle.diag.specs.declared.NetDiagData.{NetDiagData}
 use Rattle.network_writing.specs.Encode.{network_bytes}
 use Rattle.value_writing.specs.Encode.{mode_bytes, late_bytes, connectivity_bytes, leader_bytes, counters_bytes, route_byte, route64_bytes, children_bytes, ListValue, list_bytes}
@@ -164,19 +164,19 @@ lists_size_lem s (x ∷ xs) h =
 
 -- what is known of a record that can be written
 pub record Sound (r : NetDiagData) (l : Lent) : Type 0 where
-  pub ext_mac_addr : passes (inside_by (length l.bytes)) (opt_part r.ext_mac_addr) ≡ true
-  pub addresses : passes (inside_by (length l.bytes)) (opt_part r.addresses) ≡ true
-  pub channel_pages : passes (inside_by (length l.bytes)) (opt_part r.channel_pages) ≡ true
-  pub type_list : passes (inside_by (length l.bytes)) (opt_part r.type_list) ≡ true
-  pub eui64 : passes (inside_by (length l.bytes)) (opt_part r.eui64) ≡ true
-  pub ext_mac_addr_short : passes short_part (opt_part r.ext_mac_addr) ≡ true
-  pub addresses_short : passes short_part (opt_part r.addresses) ≡ true
-  pub child_table_short : passes short_part (opt_part r.child_table) ≡ true
-  pub channel_pages_short : passes short_part (opt_part r.channel_pages) ≡ true
-  pub type_list_short : passes short_part (opt_part r.type_list) ≡ true
-  pub eui64_short : passes short_part (opt_part r.eui64) ≡ true
-  pub counted : passes (λ (q : Part). routes_counted l.route64) (opt_part r.route64) ≡ true
-  pub children : passes (children_agree l.children) (opt_part r.child_table) ≡ true
+  pub ext_mac_addr : passes (inside_by (length l.bytes)) (option_of r.ext_mac_addr) ≡ true
+  pub addresses : passes (inside_by (length l.bytes)) (option_of r.addresses) ≡ true
+  pub channel_pages : passes (inside_by (length l.bytes)) (option_of r.channel_pages) ≡ true
+  pub type_list : passes (inside_by (length l.bytes)) (option_of r.type_list) ≡ true
+  pub eui64 : passes (inside_by (length l.bytes)) (option_of r.eui64) ≡ true
+  pub ext_mac_addr_short : passes short_part (option_of r.ext_mac_addr) ≡ true
+  pub addresses_short : passes short_part (option_of r.addresses) ≡ true
+  pub child_table_short : passes short_part (option_of r.child_table) ≡ true
+  pub channel_pages_short : passes short_part (option_of r.channel_pages) ≡ true
+  pub type_list_short : passes short_part (option_of r.type_list) ≡ true
+  pub eui64_short : passes short_part (option_of r.eui64) ≡ true
+  pub counted : passes (λ (q : Part). routes_counted l.route64) (option_of r.route64) ≡ true
+  pub children : passes (children_agree l.children) (option_of r.child_table) ≡ true
   pub lists : Every (ListLies l.bytes) (lists_of r l)
 
 two_long : (x : ℕ) → length (bytes_of 2 x) ≡ 2
@@ -194,21 +194,21 @@ module _ (r : NetDiagData) (l : Lent) (k : Sound r l) (sixty : Sixty l.route64) 
   fixed_fields : sizes_of (fields (values_of r l)) ≡ fixed_size r l.route64 + field_size (network_field r l)
   unfolding sizes_of values_of fixed_size numbers_size parts_size size_of
   fixed_fields =
-      let e0 = part_size_lem l.bytes (opt_part r.ext_mac_addr) k.ext_mac_addr k.ext_mac_addr_short in
-      let e1 = number_size (bytes_of 2) 2 4 two_long refl (opt_answer16 r.mac_addr) in
-      let e2 = number_size mode_bytes 1 3 (λ x. refl) refl (opt_mode r.mode) in
-      let e3 = number_size (bytes_of 4) 4 6 four_long refl (opt_answer32 r.timeout) in
+      let e0 = part_size_lem l.bytes (option_of r.ext_mac_addr) k.ext_mac_addr k.ext_mac_addr_short in
+      let e1 = number_size (bytes_of 2) 2 4 two_long refl (option_of r.mac_addr) in
+      let e2 = number_size mode_bytes 1 3 (λ x. refl) refl (option_of r.mode) in
+      let e3 = number_size (bytes_of 4) 4 6 four_long refl (option_of r.timeout) in
       let e4 = connectivity_size_lem (opt_connectivity r.connectivity) in
-      let e5 = route_size_lem l.route64 (opt_part r.route64) sixty k.counted in
-      let e6 = number_size leader_bytes 8 10 back.leader_size refl (opt_leader_data r.leader_data) in
-      let e8 = part_size_lem l.bytes (opt_part r.addresses) k.addresses k.addresses_short in
-      let e9 = number_size counters_bytes 36 38 back.counters_size refl (opt_mac_counters r.mac_counters) in
-      let e14 = number_size one_byte 1 3 (λ x. refl) refl (opt_answer8 r.battery_level) in
-      let e15 = number_size (bytes_of 2) 2 4 two_long refl (opt_answer16 r.supply_voltage) in
-      let e16 = children_size l.children (opt_part r.child_table) k.children k.child_table_short in
-      let e17 = part_size_lem l.bytes (opt_part r.channel_pages) k.channel_pages k.channel_pages_short in
-      let e18 = part_size_lem l.bytes (opt_part r.type_list) k.type_list k.type_list_short in
-      let e23 = part_size_lem l.bytes (opt_part r.eui64) k.eui64 k.eui64_short in
+      let e5 = route_size_lem l.route64 (option_of r.route64) sixty k.counted in
+      let e6 = number_size leader_bytes 8 10 back.leader_size refl (option_of r.leader_data) in
+      let e8 = part_size_lem l.bytes (option_of r.addresses) k.addresses k.addresses_short in
+      let e9 = number_size counters_bytes 36 38 back.counters_size refl (option_of r.mac_counters) in
+      let e14 = number_size one_byte 1 3 (λ x. refl) refl (option_of r.battery_level) in
+      let e15 = number_size (bytes_of 2) 2 4 two_long refl (option_of r.supply_voltage) in
+      let e16 = children_size l.children (option_of r.child_table) k.children k.child_table_short in
+      let e17 = part_size_lem l.bytes (option_of r.channel_pages) k.channel_pages k.channel_pages_short in
+      let e18 = part_size_lem l.bytes (option_of r.type_list) k.type_list k.type_list_short in
+      let e23 = part_size_lem l.bytes (option_of r.eui64) k.eui64 k.eui64_short in
       rw (e0, e1, e2, e3, e4, e5, e6, e8, e9, e14, e15, e16, e17, e18, e23) (omega arith)
 
   pub whole_size : length (encode_all (entries_of (values_of r l))) ≡ fixed_size r l.route64 + (field_size (network_field r l) + lists_size (lists_of r l))
@@ -222,22 +222,22 @@ module _ (r : NetDiagData) (l : Lent) where
   fixed_count_lem : count_of (fields (values_of r l)) ≡ fixed_count r
   unfolding count_of values_of fixed_count numbers_count parts_count
   fixed_count_lem =
-      let e0 = one_on (part_bytes l.bytes) (opt_part r.ext_mac_addr) in
-      let e1 = one_on (bytes_of 2) (opt_answer16 r.mac_addr) in
-      let e2 = one_on mode_bytes (opt_mode r.mode) in
-      let e3 = one_on (bytes_of 4) (opt_answer32 r.timeout) in
+      let e0 = one_on (part_bytes l.bytes) (option_of r.ext_mac_addr) in
+      let e1 = one_on (bytes_of 2) (option_of r.mac_addr) in
+      let e2 = one_on mode_bytes (option_of r.mode) in
+      let e3 = one_on (bytes_of 4) (option_of r.timeout) in
       let e4 = one_on connectivity_bytes (opt_connectivity r.connectivity) in
-      let e5 = one_on route64_bytes (on_given (λ (q : Part). route_used l.route64) (opt_part r.route64)) ∙ one_on (λ (q : Part). route_used l.route64) (opt_part r.route64) in
-      let e6 = one_on leader_bytes (opt_leader_data r.leader_data) in
+      let e5 = one_on route64_bytes (on_given (λ (q : Part). route_used l.route64) (option_of r.route64)) ∙ one_on (λ (q : Part). route_used l.route64) (option_of r.route64) in
+      let e6 = one_on leader_bytes (option_of r.leader_data) in
       let e7 = one_on network_bytes (on_given (network_of l) (opt_counts r.network_data)) ∙ one_on (network_of l) (opt_counts r.network_data) in
-      let e8 = one_on (part_bytes l.bytes) (opt_part r.addresses) in
-      let e9 = one_on counters_bytes (opt_mac_counters r.mac_counters) in
-      let e14 = one_on one_byte (opt_answer8 r.battery_level) in
-      let e15 = one_on (bytes_of 2) (opt_answer16 r.supply_voltage) in
-      let e16 = one_on children_bytes (on_given (children_of l.children) (opt_part r.child_table)) ∙ one_on (children_of l.children) (opt_part r.child_table) in
-      let e17 = one_on (part_bytes l.bytes) (opt_part r.channel_pages) in
-      let e18 = one_on (part_bytes l.bytes) (opt_part r.type_list) in
-      let e23 = one_on (part_bytes l.bytes) (opt_part r.eui64) in
+      let e8 = one_on (part_bytes l.bytes) (option_of r.addresses) in
+      let e9 = one_on counters_bytes (option_of r.mac_counters) in
+      let e14 = one_on one_byte (option_of r.battery_level) in
+      let e15 = one_on (bytes_of 2) (option_of r.supply_voltage) in
+      let e16 = one_on children_bytes (on_given (children_of l.children) (option_of r.child_table)) ∙ one_on (children_of l.children) (option_of r.child_table) in
+      let e17 = one_on (part_bytes l.bytes) (option_of r.channel_pages) in
+      let e18 = one_on (part_bytes l.bytes) (option_of r.type_list) in
+      let e23 = one_on (part_bytes l.bytes) (option_of r.eui64) in
       rw (e0, e1, e2, e3, e4, e5, e6, e7, e8, e9, e14, e15, e16, e17, e18, e23) (omega arith)
 
   pub whole_count : length (entries_of (values_of r l)) ≡ fixed_count r + length (lists_of r l)

@@ -6,13 +6,9 @@ use Rattle.refusal.specs.Answer.{pick}
 use Rattle.tlv_writing.specs.Encode.{entry_size}
 use Rattle.network_framing.specs.Tlvs.{bytes_for}
 use Rattle.network_data.specs.declared.PrefixEntry.{PrefixEntry}
-use Rattle.network_data.specs.declared.HasRouteEntry.{HasRouteEntry}
-use Rattle.network_data.specs.declared.BorderRouterEntry.{BorderRouterEntry}
-use Rattle.diag_rows.specs.declared.ChildTableEntry.{ChildTableEntry}
 use Rattle.diag_rows.specs.declared.ChildIpv6AddrInfo.{ChildIpv6AddrInfo}
-use Rattle.network_writing.specs.Fits.{most_item, route_fits, border_fits, context_fits}
+use Rattle.network_writing.specs.Fits.{most_item, context_fits}
 use Rattle.network_writing.specs.Tables.{context_of}
-use Rattle.value_writing.specs.Fits.{child_fits}
 use Rattle.record_writing.specs.Written.{short_list}
 use Rattle.diag_writing.specs.Pieces.{value_size}
 use Rattle.writing_walks.specs.declared.Prefixes.{Prefixes}
@@ -22,14 +18,12 @@ use Rattle.writing_walks.specs.declared.Lists.{Lists}
 unfoldable pub grown : (sum n : ℕ) → ℕ
 grown s n = pick (leb s most_bytes) (s + n) s
 
-abbrev pub passed_route : Bool → HasRouteEntry → Bool
-passed_route ok h = pick ok (route_fits h) false
+-- before the first prefix, and before the first list of so many lent bytes
+abbrev pub no_prefixes : Prefixes
+no_prefixes = record { routes = 0; borders = 0; size = 0; fits = true }
 
-abbrev pub passed_border : Bool → BorderRouterEntry → Bool
-passed_border ok b = pick ok (border_fits b) false
-
-abbrev pub passed_child : Bool → ChildTableEntry → Bool
-passed_child ok c = pick ok (child_fits c) false
+abbrev pub no_lists : ℕ → Lists
+no_lists n = record { bytes = n; short = true; fits = true; size = 0 }
 
 abbrev pub unfit : Prefixes
 unfit = record { routes = 0; borders = 0; size = 0; fits = false }

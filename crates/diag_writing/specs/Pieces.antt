@@ -1,29 +1,24 @@
 -- The written payload in the pieces in which the code writes it: no public contract cites them.
 -- Assumes nothing.
-use Rattle.std.specs.Prelude.{◌≡◌, ℕ, ◌+◌, ◌*◌, ◌≤◌, ◌%◌, true, List, [], ◌∷◌, ◌++◌, map, length, take, drop, eqb}
+use Rattle.std.specs.Prelude.{ℕ, ◌+◌, ◌*◌, ◌≤◌, ◌%◌, List, [], ◌∷◌, ◌++◌, length, take, drop, eqb, Option, Some, None}
 use Rattle.refusal.specs.Sizes.{most_value, most_has_routes, most_border_routers}
 use Rattle.refusal.specs.Answer.{pick, Answer, given, absent, refused, on_given}
-use Rattle.refusal.specs.Every.{Every}
-use Rattle.refusal.specs.Each.{joined}
+use Rattle.refusal.specs.Results.{option_of}
 use Rattle.wire_bytes.specs.Bytes.{bytes_of}
 use Rattle.tlv_writing.specs.Encode.{header, encode, encode_all}
 use Rattle.network_framing.specs.Tlvs.{bytes_for}
 use Rattle.network_data.specs.Decode.{Prefix}
+use Rattle.network_data.specs.declared.SixLowPanContext.{SixLowPanContext}
 use Rattle.network_data.specs.declared.PrefixEntry.{PrefixEntry}
 use Rattle.network_data.specs.declared.HasRouteEntry.{HasRouteEntry}
 use Rattle.network_data.specs.declared.BorderRouterEntry.{BorderRouterEntry}
-use Rattle.network_data.specs.declared.OptContext.{OptContext}
-use Rattle.network_data.specs.declared.OptContext.TheVariants as o
 use Rattle.route64.specs.declared.Route64.{Route64}
-use Rattle.diag_values.specs.Answers.{opt_answer8, opt_answer16}
-use Rattle.diag_rows.specs.Rows.{Part}
+use Rattle.diag_rows.specs.declared.Part.{Part}
 use Rattle.diag_rows.specs.declared.ChildIpv6AddrInfo.{ChildIpv6AddrInfo}
-use Rattle.diag.specs.Answers.{opt_answer32, opt_mode, opt_connectivity, opt_leader_data, opt_mac_counters, opt_part}
-use Rattle.diag.specs.declared.OptPart.{OptPart}
-use Rattle.diag.specs.declared.OptNetworkData.{OptNetworkData}
-use Rattle.diag.specs.declared.OptNetworkData.TheVariants as n
+use Rattle.diag.specs.Answers.{opt_connectivity}
+use Rattle.diag.specs.declared.NetworkDataPart.{NetworkDataPart}
 use Rattle.diag.specs.declared.NetDiagData.{NetDiagData}
-use Rattle.network_writing.specs.Encode.{route_bytes, border_bytes, item_bytes, items_bytes, context_items, prefix_item}
+use Rattle.network_writing.specs.Encode.{item_bytes, items_bytes, context_items, prefix_item}
 use Rattle.network_writing.specs.Tables.{context_of, prefix_of}
 use Rattle.value_writing.specs.Encode.{mode_bytes, connectivity_bytes, leader_bytes, counters_bytes, route64_bytes, list_bytes}
 use Rattle.record_writing.specs.Values.{Field, field, one_byte, entry_for, present}
@@ -47,31 +42,31 @@ Lies s (refused n p i) = Unit {0}
 -- types 0 to 3, 4 to 6, 8 to 15, and 17 to 23
 abbrev pub first_fields : NetDiagData → List ℕ → List Field
 first_fields r s =
-    field 0 (on_given (part_bytes s) (opt_part r.ext_mac_addr)) ∷ field 1 (on_given (bytes_of 2) (opt_answer16 r.mac_addr))
-    ∷ field 2 (on_given mode_bytes (opt_mode r.mode)) ∷ field 3 (on_given (bytes_of 4) (opt_answer32 r.timeout)) ∷ []
+    field 0 (on_given (part_bytes s) (option_of r.ext_mac_addr)) ∷ field 1 (on_given (bytes_of 2) (option_of r.mac_addr))
+    ∷ field 2 (on_given mode_bytes (option_of r.mode)) ∷ field 3 (on_given (bytes_of 4) (option_of r.timeout)) ∷ []
 
-abbrev pub route_bytes_of : OptPart → Route64 → Answer (List ℕ)
-route_bytes_of x t = on_given (λ (q : Part). route64_bytes (route_used t)) (opt_part x)
+abbrev pub route_bytes_of : Option Part → Route64 → Answer (List ℕ)
+route_bytes_of x t = on_given (λ (q : Part). route64_bytes (route_used t)) (option_of x)
 
 abbrev pub link_fields : NetDiagData → Route64 → List Field
 link_fields r t =
     field 4 (on_given connectivity_bytes (opt_connectivity r.connectivity)) ∷ field 5 (route_bytes_of r.route64 t)
-    ∷ field 6 (on_given leader_bytes (opt_leader_data r.leader_data)) ∷ []
+    ∷ field 6 (on_given leader_bytes (option_of r.leader_data)) ∷ []
 
 abbrev pub middle_fields : NetDiagData → List ℕ → List Field
 middle_fields r s =
-    field 8 (on_given (part_bytes s) (opt_part r.addresses)) ∷ field 9 (on_given counters_bytes (opt_mac_counters r.mac_counters))
-    ∷ field 14 (on_given one_byte (opt_answer8 r.battery_level)) ∷ field 15 (on_given (bytes_of 2) (opt_answer16 r.supply_voltage)) ∷ []
+    field 8 (on_given (part_bytes s) (option_of r.addresses)) ∷ field 9 (on_given counters_bytes (option_of r.mac_counters))
+    ∷ field 14 (on_given one_byte (option_of r.battery_level)) ∷ field 15 (on_given (bytes_of 2) (option_of r.supply_voltage)) ∷ []
 
 abbrev pub last_fields : NetDiagData → List ℕ → List Field
 last_fields r s =
-    field 17 (on_given (part_bytes s) (opt_part r.channel_pages)) ∷ field 18 (on_given (part_bytes s) (opt_part r.type_list))
-    ∷ field 23 (on_given (part_bytes s) (opt_part r.eui64)) ∷ []
+    field 17 (on_given (part_bytes s) (option_of r.channel_pages)) ∷ field 18 (on_given (part_bytes s) (option_of r.type_list))
+    ∷ field 23 (on_given (part_bytes s) (option_of r.eui64)) ∷ []
 
 -- the headers of the values that tables make: type 7 with so many bytes, and type 16
-unfoldable pub network_header : OptNetworkData → (size : ℕ) → List ℕ
-network_header (n.Some x) size = header 7 size
-network_header n.None size = []
+unfoldable pub network_header : Option NetworkDataPart → (size : ℕ) → List ℕ
+network_header (Some x) size = header 7 size
+network_header None size = []
 
 unfoldable pub child_header : Answer Part → List ℕ
 child_header (given q) = header 16 q.len
@@ -83,7 +78,7 @@ abbrev pub before_bytes : NetDiagData → List ℕ → Route64 → (size : ℕ) 
 before_bytes r s t size = fields_bytes (first_fields r s) ++ (fields_bytes (link_fields r t) ++ network_header r.network_data size)
 
 abbrev pub between_bytes : NetDiagData → List ℕ → List ℕ
-between_bytes r s = fields_bytes (middle_fields r s) ++ child_header (opt_part r.child_table)
+between_bytes r s = fields_bytes (middle_fields r s) ++ child_header (option_of r.child_table)
 
 abbrev pub after_bytes : NetDiagData → List ℕ → List ℕ
 after_bytes r s = fields_bytes (last_fields r s)
@@ -108,12 +103,12 @@ Short (refused n p i) = Unit {0}
 
 -- what can be placed: each part lies in the lent bytes
 pub record Placeable (r : NetDiagData) (s : List ℕ) : Type 0 where
-  pub ext_mac_addr : Lies s (opt_part r.ext_mac_addr)
-  pub addresses : Lies s (opt_part r.addresses)
-  pub channel_pages : Lies s (opt_part r.channel_pages)
-  pub type_list : Lies s (opt_part r.type_list)
-  pub eui64 : Lies s (opt_part r.eui64)
-  pub children : Short (opt_part r.child_table)
+  pub ext_mac_addr : Lies s (option_of r.ext_mac_addr)
+  pub addresses : Lies s (option_of r.addresses)
+  pub channel_pages : Lies s (option_of r.channel_pages)
+  pub type_list : Lies s (option_of r.type_list)
+  pub eui64 : Lies s (option_of r.eui64)
+  pub children : Short (option_of r.child_table)
 
 -- ---- prefixes
 
@@ -121,9 +116,9 @@ pub record Placeable (r : NetDiagData) (s : List ℕ) : Type 0 where
 unfoldable pub rows_size : (n bytes : ℕ) → ℕ
 rows_size n bytes = pick (eqb n 0) 0 (2 + bytes)
 
-unfoldable pub context_size : OptContext → ℕ
-context_size (o.Some x) = 4
-context_size o.None = 0
+unfoldable pub context_size : Option SixLowPanContext → ℕ
+context_size (Some x) = 4
+context_size None = 0
 
 -- a prefix's value, by its record alone
 abbrev pub value_size : PrefixEntry → ℕ

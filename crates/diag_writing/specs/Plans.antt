@@ -1,33 +1,27 @@
 -- What a plan says of the lent tables, and what the writing pass may lean on. No public contract cites it.
 -- Assumes nothing.
-use Rattle.std.specs.Prelude.{◌≡◌, ℕ, ◌*◌, ◌/◌, ◌≤◌, Bool, true, false, List, length, take}
+use Rattle.std.specs.Prelude.{◌≡◌, ℕ, ◌*◌, ◌/◌, ◌≤◌, Bool, true, false, List, length, take, None}
 use Rattle.refusal.specs.Sizes.{most_value, most_has_routes, most_border_routers}
 use Rattle.refusal.specs.Answer.{pick, Answer, given, absent, refused}
+use Rattle.refusal.specs.Each.{all}
 use Rattle.refusal.specs.Every.{Every}
-use Rattle.refusal.specs.Output.{output, emit, written_answer}
+use Rattle.refusal.specs.Output.{output, emit}
+use Rattle.refusal.specs.Results.{answer_of, option_of}
 use Rattle.tables.specs.Fold.{fold}
 use Rattle.tlv_writing.specs.Encode.{encode_all}
 use Rattle.network_data.specs.declared.Counts.{Counts}
 use Rattle.route64.specs.declared.Route64.{Route64}
-use Rattle.diag_values.specs.declared.OptU8.TheVariants as o8
-use Rattle.diag_values.specs.declared.OptU16.TheVariants as o16
-use Rattle.diag_rows.specs.Rows.{Part}
-use Rattle.diag.specs.Answers.{opt_part}
-use Rattle.diag.specs.declared.OptU32.TheVariants as u
-use Rattle.diag.specs.declared.OptMode.TheVariants as m
-use Rattle.diag.specs.declared.OptConnectivity.TheVariants as y
-use Rattle.diag.specs.declared.OptLeaderData.TheVariants as l
-use Rattle.diag.specs.declared.OptMacCounters.TheVariants as k
-use Rattle.diag.specs.declared.OptPart.TheVariants as p
-use Rattle.diag.specs.declared.OptNetworkData.TheVariants as n
+use Rattle.diag_rows.specs.declared.Part.{Part}
 use Rattle.diag.specs.declared.NetDiagData.{NetDiagData}
 use Rattle.network_writing.specs.Encode.{network_bytes}
+use Rattle.network_writing.specs.Fits.{route_fits, border_fits}
 use Rattle.network_writing.specs.Tables.{prefixes_of, routes_asked, borders_asked}
+use Rattle.value_writing.specs.Fits.{child_fits}
 use Rattle.record_writing.specs.Values.{entries_of}
 use Rattle.record_writing.specs.Lent.{Lent, opt_counts, values_of}
 use Rattle.record_writing.specs.Written.{written}
 use Rattle.diag_writing.specs.Pieces.{Placeable, Counted, ListLies}
-use Rattle.diag_writing.specs.Checks.{passed_route, passed_border, passed_child, passed_prefix, passed_list}
+use Rattle.diag_writing.specs.Checks.{no_prefixes, no_lists, passed_prefix, passed_list}
 use Rattle.writing_walks.specs.declared.Prefixes.{Prefixes}
 use Rattle.writing_walks.specs.declared.Lists.{Lists}
 use Rattle.writing_walks.specs.declared.Used.{Used}
@@ -39,11 +33,11 @@ pub record Scanned (r : NetDiagData) (l : Lent) (t : Route64) (x : Used) (f : Pr
   pub used :
       x ≡ used_of r (length l.bytes) (length l.prefixes) (length l.routes) (length l.borders) (length l.children) (length l.lists) x.room
   pub route64 : t ≡ l.route64
-  pub prefixes : f ≡ fold passed_prefix x.no_prefixes (take x.prefixes l.prefixes)
-  pub routes : h ≡ fold passed_route x.fits (take x.routes l.routes)
-  pub borders : b ≡ fold passed_border x.fits (take x.borders l.borders)
-  pub children : c ≡ fold passed_child x.fits (take x.children l.children)
-  pub lists : ls ≡ fold passed_list x.no_lists (take x.lists l.lists)
+  pub prefixes : f ≡ fold passed_prefix no_prefixes (take x.prefixes l.prefixes)
+  pub routes : h ≡ all route_fits (take x.routes l.routes)
+  pub borders : b ≡ all border_fits (take x.borders l.borders)
+  pub children : c ≡ all child_fits (take x.children l.children)
+  pub lists : ls ≡ fold passed_list (no_lists (length l.bytes)) (take x.lists l.lists)
 
 -- as many rows as are counted, none where there is no count
 abbrev pub Rows : Answer Counts → (prefixes : ℕ) → Type 0
@@ -60,9 +54,9 @@ Thirds (refused n p i) k = k ≡ 0
 pub record Goes (r : NetDiagData) (l : Lent) (room : ℕ) (x : Plan) : Type 0 where
   pub bytes : written r l ≡ given (encode_all (entries_of (values_of r l)))
   pub fits : length (encode_all (entries_of (values_of r l))) ≤ room
-  pub answer : written_answer x.answer ≡ given (length (encode_all (entries_of (values_of r l))))
+  pub answer : answer_of x.answer ≡ given (length (encode_all (entries_of (values_of r l))))
   pub placeable : Placeable r l.bytes
-  pub counted : Counted (opt_part r.route64) l.route64
+  pub counted : Counted (option_of r.route64) l.route64
   pub prefixes : Rows (opt_counts r.network_data) x.prefixes
   pub prefixes_lent : x.prefixes ≤ length l.prefixes
   pub routes_are : routes_asked (take x.prefixes l.prefixes) ≡ (counts_in r.network_data).has_routes
@@ -73,7 +67,7 @@ pub record Goes (r : NetDiagData) (l : Lent) (room : ℕ) (x : Plan) : Type 0 wh
   pub borders_few : (counts_in r.network_data).border_routers ≤ most_border_routers
   pub network : x.network ≡ length (network_bytes (prefixes_of (take x.prefixes l.prefixes) l.routes l.borders))
   pub network_short : x.network ≤ most_value
-  pub children : Thirds (opt_part r.child_table) x.children
+  pub children : Thirds (option_of r.child_table) x.children
   pub children_lent : x.children ≤ length l.children
   pub lists : x.lists ≡ r.child_ipv6_addresses
   pub lists_lent : x.lists ≤ length l.lists
@@ -81,14 +75,14 @@ pub record Goes (r : NetDiagData) (l : Lent) (room : ℕ) (x : Plan) : Type 0 wh
 
 -- nothing is written
 pub record Stops (r : NetDiagData) (l : Lent) (room : ℕ) (x : Plan) : Type 0 where
-  pub emits : (o : List ℕ) → length o ≡ room → output (written_answer x.answer) o ≡ emit (written r l) o
+  pub emits : (o : List ℕ) → length o ≡ room → output (answer_of x.answer) o ≡ emit (written r l) o
   pub prefixes : x.prefixes ≡ 0
   pub network : x.network ≡ 0
   pub children : x.children ≡ 0
   pub lists : x.lists ≡ 0
 
 pub record Planned (r : NetDiagData) (l : Lent) (room : ℕ) (x : Plan) : Type 0 where
-  pub answer : (o : List ℕ) → length o ≡ room → written_answer x.answer ≡ (emit (written r l) o).answer
+  pub answer : (o : List ℕ) → length o ≡ room → answer_of x.answer ≡ (emit (written r l) o).answer
   pub goes : x.go ≡ true → Goes r l room x
   pub stops : x.go ≡ false → Stops r l room x
 
@@ -99,22 +93,22 @@ Judged r t x f h b c ls q = (l : Lent) → Scanned r l t x f h b c ls → Planne
 -- ---- the record that is written: none of its fields where nothing is
 abbrev pub nothing : NetDiagData
 nothing = record {
-  ext_mac_addr = p.None;
-  mac_addr = o16.None;
-  mode = m.None;
-  timeout = u.None;
-  connectivity = y.None;
-  route64 = p.None;
-  leader_data = l.None;
-  network_data = n.None;
-  addresses = p.None;
-  mac_counters = k.None;
-  battery_level = o8.None;
-  supply_voltage = o16.None;
-  child_table = p.None;
-  channel_pages = p.None;
-  type_list = p.None;
-  eui64 = p.None;
+  ext_mac_addr = None;
+  mac_addr = None;
+  mode = None;
+  timeout = None;
+  connectivity = None;
+  route64 = None;
+  leader_data = None;
+  network_data = None;
+  addresses = None;
+  mac_counters = None;
+  battery_level = None;
+  supply_voltage = None;
+  child_table = None;
+  channel_pages = None;
+  type_list = None;
+  eui64 = None;
   child_ipv6_addresses = 0;
 }
 

@@ -12,20 +12,21 @@ mod rows;
 mod values;
 
 ghost use Rattle.std.specs.Prelude.{◌≡◌, List, ℕ, length};
-ghost use Rattle.refusal.specs.Output.{output, emit, written_answer};
+ghost use Rattle.refusal.specs.Output.{output, emit};
+ghost use Rattle.refusal.specs.Results.{answer_of};
 ghost use Rattle.record_writing.specs.Lent.{lent};
 ghost use Rattle.record_writing.specs.Written.{written};
 ghost use Rattle.diag_writing.specs.Plans.{Planned};
 
-use checks::{pass_borders, pass_children, pass_lists, pass_prefixes, pass_routes};
+use checks::{borders_fit, children_fit, pass_lists, pass_prefixes, routes_fit};
 use diag::NetDiagData;
 use diag_rows::{ChildIpv6AddrInfo, ChildTableEntry};
 use fields::{put_after, put_before, put_between};
 use lists::put_lists;
 use network_data::{BorderRouterEntry, HasRouteEntry, PrefixEntry};
-use plan::{answer, chosen, judge, no_lists, no_prefixes};
+use plan::{chosen, judge};
 use prefixes::put_prefixes;
-use refusal::Written;
+use refusal::Refusal;
 use route64::Route64;
 use rows::put_children;
 use writing_plans::count_used;
@@ -55,13 +56,11 @@ fn plan_for(
         lists.len(),
         room,
     );
-    let no_prefix = no_prefixes();
-    let p = pass_prefixes(prefixes, u.prefixes, no_prefix);
-    let h = pass_routes(has_routes, u.routes, u.fits);
-    let b = pass_borders(border_routers, u.borders, u.fits);
-    let c = pass_children(children, u.children, u.fits);
-    let no_list = no_lists(bytes);
-    let l = pass_lists(lists, u.lists, no_list);
+    let p = pass_prefixes(&prefixes[..u.prefixes]);
+    let h = routes_fit(&has_routes[..u.routes]);
+    let b = borders_fit(&border_routers[..u.borders]);
+    let c = children_fit(&children[..u.children]);
+    let l = pass_lists(&lists[..u.lists], bytes);
     judge(net_diag, route64, u, p, h, b, c, l)
 }
 
@@ -78,8 +77,8 @@ pub fn write(
     children: &[ChildTableEntry],
     lists: &[ChildIpv6AddrInfo],
     out: &mut [u8],
-) -> Written
-    ensures { output (written_answer result) out.new ≡ emit (written net_diag (lent bytes.now route64 prefixes.now has_routes.now border_routers.now children.now lists.now)) out.old }
+) -> Result<usize, Refusal>
+    ensures { output (answer_of result) out.new ≡ emit (written net_diag (lent bytes.now route64 prefixes.now has_routes.now border_routers.now children.now lists.now)) out.old }
 {
     let p = plan_for(
         net_diag,
@@ -94,10 +93,10 @@ pub fn write(
     );
     let r = chosen(p, net_diag);
     let a = put_before(r, bytes, route64, p.network, out);
-    let b = put_prefixes(prefixes, p.prefixes, has_routes, border_routers, out, a);
+    let b = put_prefixes(&prefixes[..p.prefixes], has_routes, border_routers, out, a);
     let c = put_between(r, bytes, out, b);
-    let d = put_children(children, 0, p.children, out, c);
+    let d = put_children(&children[..p.children], out, c);
     let e = put_after(r, bytes, out, d);
-    put_lists(lists, p.lists, bytes, out, e);
-    answer(p)
+    put_lists(&lists[..p.lists], bytes, out, e);
+    p.answer
 }

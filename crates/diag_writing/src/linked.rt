@@ -5,7 +5,6 @@ ghost use Rattle.value_writing.specs.Encode.{priority_bits, connectivity_bytes};
 ghost use Rattle.diag_writing.specs.Short.{bytes_in};
 
 use connectivity::Connectivity;
-use diag_values::{OptU8, OptU16};
 
 // The first len of its bytes.
 #[derive(Clone, Copy)]
@@ -52,10 +51,10 @@ pub(crate) fn connectivity_bytes(c: Connectivity) -> ConnectivityBytes
         len: 7,
     };
     match b {
-        OptU16::None => short,
-        OptU16::Some(x) => match d {
-            OptU8::None => short,
-            OptU8::Some(y) => {
+        None => short,
+        Some(x) => match d {
+            None => short,
+            Some(y) => {
                 let w = wire_bytes::u16_bytes(x);
                 ConnectivityBytes {
                     bytes: [

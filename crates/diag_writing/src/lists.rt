@@ -1,5 +1,5 @@
 // Address lists, type 30: each an entry of its own, into an output that has room for them.
-ghost use Rattle.std.specs.Prelude.{◌≡◌, ◌+◌, ◌≤◌, length, take};
+ghost use Rattle.std.specs.Prelude.{◌≡◌, ◌+◌, ◌≤◌, length};
 ghost use Rattle.refusal.specs.Every.{Every};
 ghost use Rattle.refusal.specs.Output.{put};
 ghost use Rattle.refusal.specs.Each.{joined};
@@ -20,21 +20,18 @@ fn put_list(x: ChildIpv6AddrInfo, bytes: &[u8], out: &mut [u8], at: usize) -> us
     copying::put_bytes(&bytes[start..end], out, a + 2)
 }
 
-// The first n lists of a lent table.
+// Lists, one after the other.
 pub(crate) fn put_lists(
-    table: &[ChildIpv6AddrInfo],
-    n: usize,
+    lists: &[ChildIpv6AddrInfo],
     bytes: &[u8],
     out: &mut [u8],
     mut at: usize,
 ) -> usize
-    requires { (n ≤ length table.now) × Every (ListLies bytes.now) (take n table.now) × (at + length (joined (list_entry bytes.now) (take n table.now)) ≤ length out.old) }
-    ensures { (result ≡ at + length (joined (list_entry bytes.now) (take n table.now))) × (out.new ≡ put out.old at (joined (list_entry bytes.now) (take n table.now))) }
+    requires { Every (ListLies bytes.now) lists.now × (at + length (joined (list_entry bytes.now) lists.now) ≤ length out.old) }
+    ensures { (result ≡ at + length (joined (list_entry bytes.now) lists.now)) × (out.new ≡ put out.old at (joined (list_entry bytes.now) lists.now)) }
 {
-    let mut i = 0;
-    while i < n {
-        at = put_list(table[i], bytes, out, at);
-        i += 1;
+    for x in lists {
+        at = put_list(*x, bytes, out, at);
     }
     at
 }

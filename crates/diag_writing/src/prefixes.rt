@@ -8,26 +8,25 @@ ghost use Rattle.diag_writing.specs.Pieces.{rows_size, context_size, value_size,
 
 use crate::rows::{put_borders, put_routes};
 use crate::values::weight;
-use network_data::{BorderRouterEntry, HasRouteEntry, OptContext, PrefixEntry, SixLowPanContext};
+use network_data::{BorderRouterEntry, HasRouteEntry, PrefixEntry, SixLowPanContext};
 use writing_walks::Cursor;
 
 // How many bytes the TLV of n rows takes, which have so many bytes.
+#[tactic(auto, unfolding(crate::specs::Pieces::rows_size))]
 fn rows_size(n: usize, bytes: usize) -> usize
     requires { bytes ≤ 384 }
     ensures { (result ≡ rows_size n bytes) × (result ≤ 386) }
 {
-    if n == 0 {
-        return 0;
-    }
-    2 + bytes
+    if n == 0 { 0 } else { 2 + bytes }
 }
 
-fn context_size(x: OptContext) -> usize
+#[tactic(auto, unfolding(crate::specs::Pieces::context_size))]
+fn context_size(x: Option<SixLowPanContext>) -> usize
     ensures { (result ≡ context_size x) × (result ≤ 4) }
 {
     match x {
-        OptContext::Some(_) => 4,
-        OptContext::None => 0,
+        Some(_) => 4,
+        None => 0,
     }
 }
 
@@ -36,10 +35,10 @@ pub(crate) fn value_size(e: PrefixEntry) -> usize
     requires { Few e }
     ensures { result ≡ value_size e }
 {
-    let x = e.six_low_pan_context;
     2 + (e.prefix_bit_length as usize + 7) / 8
         + (rows_size(e.has_routes, e.has_routes * 3)
-            + (rows_size(e.border_routers, e.border_routers * 4) + context_size(x)))
+            + (rows_size(e.border_routers, e.border_routers * 4)
+                + context_size(e.six_low_pan_context)))
 }
 
 // The two bytes before a value of n bytes.
@@ -58,9 +57,10 @@ fn put_rows_mark(mark: u8, n: usize, bytes: usize, out: &mut [u8], at: usize) ->
     ensures { (result ≡ at + length (rows_mark mark n bytes)) × (out.new ≡ put out.old at (rows_mark mark n bytes)) }
 {
     if n == 0 {
-        return at;
+        at
+    } else {
+        put_mark(mark, bytes, out, at)
     }
-    put_mark(mark, bytes, out, at)
 }
 
 // The first n bytes of a prefix's array.
@@ -107,13 +107,13 @@ fn put_tail(e: PrefixEntry, out: &mut [u8], at: usize) -> usize
 {
     let x = e.six_low_pan_context;
     match x {
-        OptContext::Some(c) => {
+        Some(c) => {
             let start = put_mark(6, 2, out, at);
             out[start] = context_byte(c);
             out[start + 1] = c.context_length;
             start + 2
         }
-        OptContext::None => at,
+        None => at,
     }
 }
 
@@ -123,7 +123,7 @@ fn after(c: Cursor, e: PrefixEntry, at: usize) -> Cursor
     ensures { result ≡ record { at = at; route = c.route + e.has_routes; border = c.border + e.border_routers } }
 {
     Cursor {
-        at: at,
+        at,
         route: c.route + e.has_routes,
         border: c.border + e.border_routers,
     }
@@ -141,29 +141,26 @@ fn put_prefix(
     ensures { (result ≡ record { at = c.at + length (prefix_bytes e routes.now c.route borders.now c.border); route = c.route + e.has_routes; border = c.border + e.border_routers }) × (out.new ≡ put out.old c.at (prefix_bytes e routes.now c.route borders.now c.border)) }
 {
     let head = put_head(e, out, c.at);
-    let mid = put_routes(routes, c.route, e.has_routes, out, head);
+    let mid = put_routes(&routes[c.route..c.route + e.has_routes], out, head);
     let next = put_border_mark(e, out, mid);
-    let last = put_borders(borders, c.border, e.border_routers, out, next);
+    let last = put_borders(&borders[c.border..c.border + e.border_routers], out, next);
     let end = put_tail(e, out, last);
     after(c, e, end)
 }
 
-// The first n prefixes of a table, one after the other.
+// Prefixes, one after the other.
 pub(crate) fn put_prefixes(
-    table: &[PrefixEntry],
-    n: usize,
+    prefixes: &[PrefixEntry],
     routes: &[HasRouteEntry],
     borders: &[BorderRouterEntry],
     out: &mut [u8],
     mut c: Cursor,
 ) -> Cursor
-    requires { (n ≤ length table.now) × (c.route + routes_asked (take n table.now) ≤ length routes.now) × (c.border + borders_asked (take n table.now) ≤ length borders.now) × (c.route + routes_asked (take n table.now) ≤ 96) × (c.border + borders_asked (take n table.now) ≤ 96) × (c.at + length (network_bytes (prefixes_of (take n table.now) (drop c.route routes.now) (drop c.border borders.now))) ≤ length out.old) }
-    ensures { (result.at ≡ c.at + length (network_bytes (prefixes_of (take n table.now) (drop c.route routes.now) (drop c.border borders.now)))) × (out.new ≡ put out.old c.at (network_bytes (prefixes_of (take n table.now) (drop c.route routes.now) (drop c.border borders.now)))) }
+    requires { (c.route + routes_asked prefixes.now ≤ length routes.now) × (c.border + borders_asked prefixes.now ≤ length borders.now) × (c.route + routes_asked prefixes.now ≤ 96) × (c.border + borders_asked prefixes.now ≤ 96) × (c.at + length (network_bytes (prefixes_of prefixes.now (drop c.route routes.now) (drop c.border borders.now))) ≤ length out.old) }
+    ensures { (result.at ≡ c.at + length (network_bytes (prefixes_of prefixes.now (drop c.route routes.now) (drop c.border borders.now)))) × (out.new ≡ put out.old c.at (network_bytes (prefixes_of prefixes.now (drop c.route routes.now) (drop c.border borders.now)))) }
 {
-    let mut i = 0;
-    while i < n {
-        c = put_prefix(table[i], routes, borders, out, c);
-        i += 1;
+    for e in prefixes {
+        c = put_prefix(*e, routes, borders, out, c);
     }
     c
 }

@@ -1,5 +1,5 @@
 // Rows of Network Data and of a child table: each into an output that has room for it.
-ghost use Rattle.std.specs.Prelude.{◌≡◌, ◌+◌, ◌≤◌, length, take, drop};
+ghost use Rattle.std.specs.Prelude.{◌≡◌, ◌+◌, ◌≤◌, length};
 ghost use Rattle.refusal.specs.Output.{put};
 ghost use Rattle.refusal.specs.Each.{joined};
 ghost use Rattle.network_writing.specs.Encode.{route_bytes, border_flags, more_flags, border_bytes};
@@ -59,57 +59,33 @@ fn put_child(c: ChildTableEntry, out: &mut [u8], at: usize) -> usize
     at + 3
 }
 
-// The n rows of a lent table from one on.
-pub(crate) fn put_routes(
-    table: &[HasRouteEntry],
-    from: usize,
-    n: usize,
-    out: &mut [u8],
-    mut at: usize,
-) -> usize
-    requires { (from + n ≤ length table.now) × (at + length (joined route_bytes (take n (drop from table.now))) ≤ length out.old) }
-    ensures { (result ≡ at + length (joined route_bytes (take n (drop from table.now)))) × (out.new ≡ put out.old at (joined route_bytes (take n (drop from table.now)))) }
+// Rows, one after the other.
+pub(crate) fn put_routes(rows: &[HasRouteEntry], out: &mut [u8], mut at: usize) -> usize
+    requires { at + length (joined route_bytes rows.now) ≤ length out.old }
+    ensures { (result ≡ at + length (joined route_bytes rows.now)) × (out.new ≡ put out.old at (joined route_bytes rows.now)) }
 {
-    let mut i = 0;
-    while i < n {
-        at = put_route(table[from + i], out, at);
-        i += 1;
+    for row in rows {
+        at = put_route(*row, out, at);
     }
     at
 }
 
-pub(crate) fn put_borders(
-    table: &[BorderRouterEntry],
-    from: usize,
-    n: usize,
-    out: &mut [u8],
-    mut at: usize,
-) -> usize
-    requires { (from + n ≤ length table.now) × (at + length (joined border_bytes (take n (drop from table.now))) ≤ length out.old) }
-    ensures { (result ≡ at + length (joined border_bytes (take n (drop from table.now)))) × (out.new ≡ put out.old at (joined border_bytes (take n (drop from table.now)))) }
+pub(crate) fn put_borders(rows: &[BorderRouterEntry], out: &mut [u8], mut at: usize) -> usize
+    requires { at + length (joined border_bytes rows.now) ≤ length out.old }
+    ensures { (result ≡ at + length (joined border_bytes rows.now)) × (out.new ≡ put out.old at (joined border_bytes rows.now)) }
 {
-    let mut i = 0;
-    while i < n {
-        at = put_border(table[from + i], out, at);
-        i += 1;
+    for row in rows {
+        at = put_border(*row, out, at);
     }
     at
 }
 
-pub(crate) fn put_children(
-    table: &[ChildTableEntry],
-    from: usize,
-    n: usize,
-    out: &mut [u8],
-    mut at: usize,
-) -> usize
-    requires { (from + n ≤ length table.now) × (at + length (joined child_bytes (take n (drop from table.now))) ≤ length out.old) }
-    ensures { (result ≡ at + length (joined child_bytes (take n (drop from table.now)))) × (out.new ≡ put out.old at (joined child_bytes (take n (drop from table.now)))) }
+pub(crate) fn put_children(rows: &[ChildTableEntry], out: &mut [u8], mut at: usize) -> usize
+    requires { at + length (joined child_bytes rows.now) ≤ length out.old }
+    ensures { (result ≡ at + length (joined child_bytes rows.now)) × (out.new ≡ put out.old at (joined child_bytes rows.now)) }
 {
-    let mut i = 0;
-    while i < n {
-        at = put_child(table[from + i], out, at);
-        i += 1;
+    for row in rows {
+        at = put_child(*row, out, at);
     }
     at
 }

@@ -12,10 +12,7 @@ use route64::RouteDataEntry;
 pub(crate) fn weight(b: bool, w: u8) -> u8
     ensures { (result ≡ bit b w) × (result ≤ w) }
 {
-    if b {
-        return w;
-    }
-    0
+    if b { w } else { 0 }
 }
 
 // Type 2.
@@ -89,11 +86,5 @@ pub(crate) fn counters_bytes(c: MacCounters) -> [u8; 36]
 pub(crate) fn child_fits(c: ChildTableEntry) -> bool
     ensures { result ≡ child_fits c }
 {
-    if c.timeout_exponent > 31 {
-        return false;
-    }
-    if c.incoming_link_quality > 3 {
-        return false;
-    }
-    c.child_id <= 511
+    c.timeout_exponent <= 31 && c.incoming_link_quality <= 3 && c.child_id <= 511
 }

@@ -1,4 +1,4 @@
--- The laws of `lesser`, for each branch, and of `bytes_before`, for the loop that looks for a byte.
+-- The laws of `bytes_before`, for the loop that looks for a byte.
 -- Assumes nothing.
 use mathlib.Core.Path.{◌≡◌}
 use mathlib.Core.Bool.{true, false}
@@ -8,17 +8,7 @@ use native.Mathlib.Numerals.{add-one}
 use lib.ListN.{length, drop, get_or, drop_of_length-le}
 use lib.Seq.{drop-cons}
 use lib.Dec.{eqb}
-use borrow.Author.Tests.{lt-ltb, le-ltb}
-use Rattle.harness.specs.Places.{lesser, bytes_before}
-
-module _ (a b : ℕ) where
-  pub lesser_first : a < b → a ≡ lesser a b
-  unfolding lesser
-  lesser_first h = simp (lt-ltb _ _ h)
-
-  pub lesser_second : b ≤ a → b ≡ lesser a b
-  unfolding lesser
-  lesser_second h = simp (le-ltb _ _ h)
+use Rattle.harness.specs.Places.{bytes_before}
 
 module _ (stop : ℕ) (s : List ℕ) (i : ℕ) where
   pub before_here : i < length s → eqb (get_or s i 0) stop ≡ true → bytes_before stop (drop i s) ≡ 0

@@ -1,10 +1,7 @@
--- The lesser of two numbers, and how many bytes stand before the first one that is asked for.
+-- How many bytes stand before the first one that is asked for.
 -- Assumes nothing.
-use Rattle.std.specs.Prelude.{ℕ, suc, List, [], ◌∷◌, ltb, eqb}
+use Rattle.std.specs.Prelude.{ℕ, suc, List, [], ◌∷◌, eqb}
 use Rattle.refusal.specs.Answer.{pick}
-
-unfoldable pub lesser : ℕ → ℕ → ℕ
-lesser a b = pick (ltb a b) a b
 
 -- all of them where it is not there
 unfoldable pub bytes_before : (stop : ℕ) → List ℕ → ℕ

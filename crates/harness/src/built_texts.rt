@@ -1,6 +1,7 @@
 // The texts of typed values built from numbers, and of flags: `ts.build`, `channel.bytes`, `policy.bytes`, `flags.get`, `flags.set`, `flags.has`.
+use crate::answers::put_given;
 use crate::requests::{Values, asks};
-use crate::texts::{Room, put_bytes_value, put_number, put_one, put_text};
+use crate::texts::{Room, put_bytes_value, put_number, put_text};
 use policy_flags::{SecurityPolicyFlags, ThreadProtocolVersion};
 use timestamps::Timestamp;
 use values::{Channel, SecurityPolicy};
@@ -49,10 +50,7 @@ fn put_built(text: &mut Room, at: usize, seconds: u64, ticks: u16, bit: u64) -> 
 }
 
 fn put_has(text: &mut Room, at: usize, flags: SecurityPolicyFlags, mask: u16) -> usize {
-    if flags.contains(mask) {
-        return put_one(text, at, 1);
-    }
-    put_one(text, at, 0)
+    put_given(text, at, u8::from(flags.contains(mask)))
 }
 
 fn put_channel_bytes(text: &mut Room, at: usize, page: u8, channel: u16) -> usize {
@@ -76,7 +74,7 @@ fn flags_texts(request: &Room, v: Values, text: &mut Room, at: usize) -> usize {
     }
     if asks(request, b"flags.set sv") {
         let set = flags.set_version_threshold_for_routing(version_of(v.number(2)));
-        return put_one(text, at, set.bits() as u64);
+        return put_given(text, at, set.bits());
     }
     if asks(request, b"flags.has ss") {
         return put_has(text, at, flags, v.short(2));

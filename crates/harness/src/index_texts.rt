@@ -2,40 +2,35 @@
 use crate::entry_texts::put_part;
 use crate::requests::{Values, asks};
 use crate::texts::{Room, put_absent, put_ok, put_refusal};
-use dataset_index::Loaded;
-use tlv_last::Found;
+use refusal::Refusal;
 
-fn put_loaded(text: &mut Room, at: usize, loaded: Loaded) -> usize {
+fn put_loaded(text: &mut Room, at: usize, loaded: Result<(), Refusal>) -> usize {
     match loaded {
-        Loaded::Current => put_ok(text, at),
-        Loaded::Refused(r) => put_refusal(text, at, r),
+        Ok(()) => put_ok(text, at),
+        Err(r) => put_refusal(text, at, r),
     }
 }
 
 // The place is where the value of the entry that was found begins, the bytes are the part that was handed back.
 fn put_looked(text: &mut Room, at: usize, ty: u8, s: &[u8], index: &[u8]) -> usize {
     match dataset_index::last_entry(s, index, ty) {
-        Found::At {
-            place: _,
-            start,
-            len: _,
-        } => put_part(
+        Ok(Some(spot)) => put_part(
             text,
             at,
             b"ok ",
             dataset_index::last_value(s, index, ty),
-            start,
+            spot.start,
         ),
-        Found::Absent => put_absent(text, at),
-        Found::Refused(r) => put_refusal(text, at, r),
+        Ok(None) => put_absent(text, at),
+        Err(r) => put_refusal(text, at, r),
     }
 }
 
 // The index is loaded, and then it is asked.
 fn put_queried(text: &mut Room, at: usize, ty: u8, s: &[u8], index: &[u8]) -> usize {
     match dataset_index::load(s, index) {
-        Loaded::Current => put_looked(text, at, ty, s, index),
-        Loaded::Refused(r) => put_refusal(text, at, r),
+        Ok(()) => put_looked(text, at, ty, s, index),
+        Err(r) => put_refusal(text, at, r),
     }
 }
 

@@ -4,6 +4,7 @@
 // call and put what it answers, with the pieces of `texts`. docs/USERS.md has an example of each request.
 #![tactic(auto)]
 
+mod answers;
 mod built_texts;
 mod calls;
 mod dataset_texts;

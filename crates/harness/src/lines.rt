@@ -2,9 +2,9 @@
 ghost use Rattle.std.specs.Prelude.{◌≤◌, length, IfOk};
 
 use crate::calls::{LONGEST_LINE, put_call};
-use crate::requests::{least, until};
+use crate::requests::until;
 use crate::rooms::Lent;
-use crate::texts::{Room, put_byte, put_text};
+use crate::texts::{Room, part_of, put_byte, put_text};
 use std::io;
 use std::io::{Read, Stdin, Stdout};
 
@@ -19,8 +19,7 @@ fn put_line(line: &[u8], arena: &mut Room, out: &mut Lent, text: &mut Room, at: 
 
 // Writes the text up to a place.
 fn flush(to: Stdout, text: &[u8], at: usize) -> io::Result<()> {
-    let n = least(at, text.len());
-    to.write_all(&text[0..n])
+    to.write_all(part_of(text, 0, at.min(text.len())))
 }
 
 // Writes the text if it is more than half full, so that every answer has room. The place where it goes on.
@@ -65,17 +64,13 @@ fn read_more(mut from: Stdin, input: &mut [u8], kept: usize) -> io::Result<usize
 fn whole_lines(s: &[u8], kept: usize) -> usize
     ensures { result ≤ length s.now }
 {
-    let mut i = s.len();
-    if i == kept {
-        return i;
+    if s.len() == kept {
+        return kept;
     }
-    while i > 0 {
-        if s[i - 1] == b'\n' {
-            return i;
-        }
-        i -= 1;
+    match s.iter().rposition(|b| *b == b'\n') {
+        Some(i) => i + 1,
+        None => 0,
     }
-    0
 }
 
 // Moves the bytes from `start` up to `end`, which begin a line, to the front; of a line that is too long no more than makes it too long,
@@ -84,12 +79,8 @@ fn to_front(s: &mut [u8], start: usize, end: usize) -> usize
     requires start_le_end { start ≤ end }
     requires end_bound { end ≤ length s.old }
 {
-    let n = least(LONGEST_LINE + 1, end - start);
-    let mut i: usize = 0;
-    while i < n {
-        s[i] = s[start + i];
-        i += 1;
-    }
+    let n = (end - start).min(LONGEST_LINE + 1);
+    s.copy_within(start..start + n, 0);
     n
 }
 
@@ -114,7 +105,7 @@ fn take_turn(
     Ok(to_front(input, whole, end))
 }
 
-// Answers every line of the standard input. Nothing says that an input ends, so the turns are counted, down from 2^64 - 1.
+// Answers every line of the standard input. Nothing says that an input ends, so the turns are counted, to 2^64 - 1.
 pub(crate) fn answer_all(
     from: Stdin,
     to: Stdout,
@@ -123,15 +114,13 @@ pub(crate) fn answer_all(
     out: &mut Lent,
     text: &mut Room,
 ) -> io::Result<()> {
-    let mut turns = u64::MAX;
     let mut kept: usize = 0;
-    while turns > 0 {
+    for _ in 0..u64::MAX {
         let next = take_turn(from, to, input, kept, arena, out, text)?;
         if next > input.len() {
             return Ok(());
         }
         kept = next;
-        turns -= 1;
     }
     Ok(())
 }

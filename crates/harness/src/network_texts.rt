@@ -1,16 +1,16 @@
 // The texts of Network Data: `nd`, and what a whole payload has of it.
-mod lent;
+pub(crate) mod lent;
 mod rows;
 
 ghost use Rattle.std.specs.Prelude.{◌≡◌};
 ghost use Rattle.network_data.specs.Rules.{counts};
 
+use crate::answers::put_there;
 use crate::requests::{Values, asks};
 use crate::texts::{Room, put_byte, put_dirty, put_name, put_ok, put_refusal};
 use lent::{changed, no_border, no_prefix, no_route, put_table};
 use network_bridge::{Decoded, PLACES, Tables};
-use network_data::{Checked, Counts};
-use rows::{put_read_border_router, put_read_has_route, put_read_prefix};
+use network_data::Counts;
 
 #[derive(Clone, Copy)]
 pub(crate) enum Table {
@@ -50,13 +50,9 @@ pub(crate) fn put_left(text: &mut Room, at: usize, tables: Tables, counts: Count
 // The text of a bare value's record by its number, as the call for it hands it out.
 pub(crate) fn put_row(text: &mut Room, at: usize, table: Table, value: &[u8], k: usize) -> usize {
     match table {
-        Table::Prefixes => put_read_prefix(text, at, network_tables::prefix_at(value, k)),
-        Table::HasRoutes => put_read_has_route(text, at, network_tables::has_route_at(value, k)),
-        Table::BorderRouters => put_read_border_router(
-            text,
-            at,
-            network_tables::border_router_at(value, k),
-        ),
+        Table::Prefixes => put_there(text, at, network_tables::prefix_at(value, k)),
+        Table::HasRoutes => put_there(text, at, network_tables::has_route_at(value, k)),
+        Table::BorderRouters => put_there(text, at, network_tables::border_router_at(value, k)),
     }
 }
 
@@ -92,12 +88,12 @@ fn put_bare_network(text: &mut Room, at: usize, value: &[u8], lent: Counts) -> u
     let answer = decoded.answer;
     let tables = decoded.tables;
     match answer {
-        Checked::Counted(counts) => {
+        Ok(counts) => {
             let word = put_ok(text, at);
             let end = put_tables(text, word, tables, counts);
             put_left(text, end, tables, counts)
         }
-        Checked::Refused(r) => {
+        Err(r) => {
             let end = put_refusal(text, at, r);
             put_left(text, end, tables, places(0, 0, 0))
         }

@@ -2,9 +2,9 @@
 //
 // The arena has first its name, a blank, a kind for each further word and 0; and from BYTES on the bytes that its words spell, side by side.
 ghost use Rattle.std.specs.Prelude.{◌≡◌, ◌≤◌, length};
-ghost use Rattle.harness.specs.Places.{lesser, bytes_before};
+ghost use Rattle.harness.specs.Places.{bytes_before};
 
-use crate::texts::{ROOM, Room, part_of, put_byte, put_text, same};
+use crate::texts::{ROOM, Room, part_of, put_byte, put_text};
 
 // A request has at most so many words, its name among them, and a name at most so long: the bytes come after what both can take.
 pub(crate) const MOST_VALUES: usize = 24;
@@ -18,13 +18,13 @@ const WORD: u8 = 1;
 
 const HEX: u8 = 2;
 
-pub(crate) const NUMBER: u8 = 4;
+const NUMBER: u8 = 4;
 
-pub(crate) const TYPE: u8 = 8;
+const TYPE: u8 = 8;
 
-pub(crate) const SHORT: u8 = 16;
+const SHORT: u8 = 16;
 
-pub(crate) const BIT: u8 = 32;
+const BIT: u8 = 32;
 
 const VERSION: u8 = 64;
 
@@ -52,27 +52,17 @@ pub(crate) struct Values {
     values: [Value; MOST_VALUES],
 }
 
-// The lesser of two numbers.
-pub(crate) fn least(a: usize, b: usize) -> usize
-    ensures upper_bound { result ≤ b }
-    ensures value { result ≡ lesser a b }
-{
-    if a < b { a } else { b }
-}
-
 // The place of the first `stop`, or the end.
 pub(crate) fn until(s: &[u8], stop: u8) -> usize
     ensures upper_bound { result ≤ length s.now }
     ensures value { result ≡ bytes_before stop s.now }
 {
-    let mut i = 0;
-    while i < s.len() {
-        if s[i] == stop {
+    for (i, b) in s.iter().enumerate() {
+        if *b == stop {
             return i;
         }
-        i += 1;
     }
-    i
+    s.len()
 }
 
 // The value of a lower-case hex digit, or 16.
@@ -87,16 +77,13 @@ fn digit(c: u8) -> u8 {
 // Puts the bytes that a word spells into the arena from start on. The place after them, which is start where it spells none. A digit that is
 // none has a bit that no other has, so one test at the end finds it.
 pub(crate) fn put_bytes(word: &[u8], arena: &mut Room, start: usize) -> usize {
-    let n = word.len() / 2;
     let mut seen = 0;
     let mut end = start;
-    let mut i = 0;
-    while i < n {
+    for i in 0..word.len() / 2 {
         let high = digit(word[2 * i]);
         let low = digit(word[2 * i + 1]);
-        seen = seen | high | low;
+        seen |= high | low;
         end = put_byte(arena, end, high % 16 * 16 + low % 16);
-        i += 1;
     }
     if seen > 15 {
         return start;
@@ -107,39 +94,19 @@ pub(crate) fn put_bytes(word: &[u8], arena: &mut Room, start: usize) -> usize {
     end
 }
 
-// The number that a word spells, to 2^64 - 1, and its kind: 0 if it spells none.
-#[derive(Clone, Copy)]
-pub(crate) struct Number {
-    pub(crate) kind: u8,
-    pub(crate) value: u64,
-}
-
-pub(crate) fn number_of(word: &[u8]) -> Number {
-    let none = Number { kind: 0, value: 0 };
-    if word.len() == 0 {
-        return none;
+// The number that a word spells, to 2^64 - 1: digits alone, with no sign.
+pub(crate) fn number_of(word: &[u8]) -> Option<u64> {
+    if word.is_empty() {
+        return None;
     }
     let mut x: u64 = 0;
-    let mut i = 0;
-    while i < word.len() {
-        let c = word[i];
-        if c < b'0' {
-            return none;
+    for c in word {
+        if !c.is_ascii_digit() {
+            return None;
         }
-        if c > b'9' {
-            return none;
-        }
-        let low = (c - b'0') as u64;
-        if x > (u64::MAX - low) / 10 {
-            return none;
-        }
-        x = x * 10 + low;
-        i += 1;
+        x = x.checked_mul(10)?.checked_add(u64::from(c - b'0'))?;
     }
-    Number {
-        kind: number_kind(x),
-        value: x,
-    }
+    Some(x)
 }
 
 fn number_kind(x: u64) -> u8 {
@@ -155,51 +122,33 @@ fn number_kind(x: u64) -> u8 {
     NUMBER | SHORT | TYPE | BIT
 }
 
-// The number of a version, with 0 for `V1Or2`, and its kind: 0 if the word is none.
-fn version_of(word: &[u8]) -> Number {
-    if same(word, b"V1Or2") {
-        return Number {
-            kind: VERSION,
-            value: 0,
-        };
+// The number of a version, with 0 for `V1Or2`.
+fn version_of(word: &[u8]) -> Option<u64> {
+    match word {
+        b"V1Or2" => Some(0),
+        b"V10" => Some(10),
+        [b'V', digit @ b'3'..=b'9'] => Some(u64::from(digit - b'0')),
+        _ => None,
     }
-    if same(word, b"V10") {
-        return Number {
-            kind: VERSION,
-            value: 10,
-        };
-    }
-    if word.len() == 2 {
-        return short_version(word[0], word[1]);
-    }
-    Number { kind: 0, value: 0 }
 }
 
-// `V3` to `V9`.
-fn short_version(v: u8, digit: u8) -> Number {
-    if v == b'V' {
-        if digit >= b'3' {
-            if digit <= b'9' {
-                return Number {
-                    kind: VERSION,
-                    value: (digit - b'0') as u64,
-                };
-            }
-        }
+// The number that a word spells, or the number of a version, with its kind: 0 if it is neither.
+fn numbered(word: &[u8]) -> (u8, u64) {
+    if let Some(n) = number_of(word) {
+        return (number_kind(n), n);
     }
-    Number { kind: 0, value: 0 }
+    match version_of(word) {
+        Some(n) => (VERSION, n),
+        None => (0, 0),
+    }
 }
 
 pub(crate) fn hex_kind(word: &[u8], start: usize, end: usize) -> u8 {
-    if end > start {
-        return HEX;
+    if end > start || word == b"-".as_slice() {
+        HEX
+    } else {
+        0
     }
-    if word.len() == 1 {
-        if word[0] == b'-' {
-            return HEX;
-        }
-    }
-    0
 }
 
 // Reads the word that begins at `first`, and puts its bytes into the arena from `start` on.
@@ -210,15 +159,14 @@ fn value_of(line: &[u8], first: usize, arena: &mut Room, start: usize) -> Value
 {
     let stop = first + until(&line[first..], b' ');
     let word = &line[first..stop];
-    let n = number_of(word);
-    let version = version_of(word);
+    let (kind, number) = numbered(word);
     let end = put_bytes(word, arena, start);
     Value {
-        kind: WORD | hex_kind(word, start, end) | n.kind | version.kind,
+        kind: WORD | hex_kind(word, start, end) | kind,
         stop,
         start,
         end,
-        number: n.value | version.value,
+        number,
     }
 }
 
@@ -334,17 +282,14 @@ pub(crate) fn asks(request: &Room, call: &[u8]) -> bool {
         return false;
     }
     let mut letters = false;
-    let mut i = 0;
-    while i < n {
-        let with = call[i];
-        if with == b'*' {
+    for (c, with) in request.iter().zip(call) {
+        if *with == b'*' {
             return true;
         }
-        if !agrees(request[i], with, letters) {
+        if !agrees(*c, *with, letters) {
             return false;
         }
-        letters = letters | (with == b' ');
-        i += 1;
+        letters |= *with == b' ';
     }
     request[n] == 0
 }

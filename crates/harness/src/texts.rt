@@ -16,37 +16,12 @@ pub(crate) const PATTERN: u8 = 0xA5;
 
 // The part of s from start up to end, or no bytes where s has no such part.
 pub(crate) fn part_of<'a>(s: &'a [u8], start: usize, end: usize) -> &'a [u8] {
-    if start <= end {
-        if end <= s.len() {
-            return &s[start..end];
-        }
-    }
-    &s[..0]
+    s.get(start..end).unwrap_or(&s[..0])
 }
 
 // The len bytes of s from start on, or no bytes where s has no such part.
 pub(crate) fn part<'a>(s: &'a [u8], start: usize, len: usize) -> &'a [u8] {
-    if start <= s.len() {
-        if len <= s.len() - start {
-            return part_of(s, start, start + len);
-        }
-    }
-    part_of(s, 0, 0)
-}
-
-// Whether two texts are the same.
-pub(crate) fn same(a: &[u8], b: &[u8]) -> bool {
-    if a.len() != b.len() {
-        return false;
-    }
-    let mut i = 0;
-    while i < a.len() {
-        if a[i] != b[i] {
-            return false;
-        }
-        i += 1;
-    }
-    true
+    part_of(s, start, start.saturating_add(len))
 }
 
 pub(crate) fn put_byte(text: &mut Room, at: usize, b: u8) -> usize {
@@ -59,10 +34,8 @@ pub(crate) fn put_byte(text: &mut Room, at: usize, b: u8) -> usize {
 
 pub(crate) fn put_text(text: &mut Room, at: usize, s: &[u8]) -> usize {
     let mut next = at;
-    let mut i = 0;
-    while i < s.len() {
-        next = put_byte(text, next, s[i]);
-        i += 1;
+    for b in s {
+        next = put_byte(text, next, *b);
     }
     next
 }
@@ -81,16 +54,13 @@ fn digit_of(value: u8) -> u8 {
 
 // Bytes in lower-case hex, and `-` for none.
 pub(crate) fn put_hex(text: &mut Room, at: usize, s: &[u8]) -> usize {
-    if s.len() == 0 {
+    if s.is_empty() {
         return put_byte(text, at, b'-');
     }
     let mut next = at;
-    let mut i = 0;
-    while i < s.len() {
-        let b = s[i];
+    for b in s {
         let half = put_byte(text, next, digit_of(b / 16));
-        next = put_byte(text, half, digit_of(b));
-        i += 1;
+        next = put_byte(text, half, digit_of(*b));
     }
     next
 }
@@ -115,17 +85,14 @@ pub(crate) fn put_name(text: &mut Room, at: usize, ty: u8) -> usize {
 // Numbers, the mark before each.
 pub(crate) fn put_numbers(text: &mut Room, at: usize, mark: u8, numbers: &[usize]) -> usize {
     let mut next = at;
-    let mut i = 0;
-    while i < numbers.len() {
-        next = put_marked(text, next, mark, numbers[i]);
-        i += 1;
+    for n in numbers {
+        next = put_marked(text, next, mark, *n);
     }
     next
 }
 
 pub(crate) fn put_refusal(text: &mut Room, at: usize, r: Refusal) -> usize {
-    let fault = r.fault;
-    let numbers = [fault.number() as usize, r.place, r.input as usize];
+    let numbers = [usize::from(r.fault.number()), r.place, usize::from(r.input)];
     let word = put_text(text, at, b"refused");
     put_numbers(text, word, b' ', &numbers)
 }
@@ -153,20 +120,15 @@ pub(crate) fn put_bytes_value(text: &mut Room, at: usize, s: &[u8]) -> usize {
     put_hex(text, word, s)
 }
 
-// A value that is one number, or two, or three.
-pub(crate) fn put_one(text: &mut Room, at: usize, a: u64) -> usize {
-    let word = put_text(text, at, b"ok ");
-    put_number(text, word, a)
-}
-
-pub(crate) fn put_two(text: &mut Room, at: usize, a: u64, b: u64) -> usize {
-    let first = put_one(text, at, a);
+// Two numbers, or three, blanks between.
+pub(crate) fn put_pair(text: &mut Room, at: usize, a: u64, b: u64) -> usize {
+    let first = put_number(text, at, a);
     let blank = put_byte(text, first, b' ');
     put_number(text, blank, b)
 }
 
-pub(crate) fn put_three(text: &mut Room, at: usize, a: u64, b: u64, c: u64) -> usize {
-    let second = put_two(text, at, a, b);
+pub(crate) fn put_triple(text: &mut Room, at: usize, a: u64, b: u64, c: u64) -> usize {
+    let second = put_pair(text, at, a, b);
     let blank = put_byte(text, second, b' ');
     put_number(text, blank, c)
 }

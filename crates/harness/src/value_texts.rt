@@ -3,12 +3,13 @@ mod bare;
 mod kinds;
 mod requested;
 
+use crate::answers::Put;
 use crate::network_texts::Table;
 use crate::requests::{Values, asks};
-use crate::texts::{Room, digit, put_byte, put_hex, put_marked, put_number, put_numbers, put_text};
+use crate::texts::{Room, digit, put_byte, put_hex, put_number, put_numbers, put_text};
 use bare::put_bare;
 use connectivity::Connectivity;
-use diag_values::{LeaderData, MacCounters, ModeData, OptU8, OptU16};
+use diag_values::{LeaderData, MacCounters, ModeData};
 use kinds::{put_row, put_seconds};
 use requested::{NO_TYPE, named_type};
 use route64::Route64;
@@ -23,13 +24,15 @@ pub(crate) enum Rows {
 }
 
 // Three digits: receiver on, minimal device, full Network Data.
-pub(crate) fn put_mode(text: &mut Room, at: usize, m: ModeData) -> usize {
-    let digits = [
-        digit(m.rx_on_when_idle),
-        digit(m.is_mtd),
-        digit(m.requires_full_network_data),
-    ];
-    put_text(text, at, &digits)
+impl Put for ModeData {
+    fn put(self, text: &mut Room, at: usize) -> usize {
+        let digits = [
+            digit(self.rx_on_when_idle),
+            digit(self.is_mtd),
+            digit(self.requires_full_network_data),
+        ];
+        put_text(text, at, &digits)
+    }
 }
 
 // A priority is -2 to 1.
@@ -44,61 +47,61 @@ fn put_priority(text: &mut Room, at: usize, priority: i8) -> usize {
 }
 
 // A late field, or `-` where it is absent.
-fn put_late_u16(text: &mut Room, at: usize, late: OptU16) -> usize {
+fn put_late<T: Put>(text: &mut Room, at: usize, late: Option<T>) -> usize {
     match late {
-        OptU16::Some(n) => put_marked(text, at, b',', n as usize),
-        OptU16::None => put_text(text, at, b",-"),
+        Some(x) => {
+            let mark = put_byte(text, at, b',');
+            x.put(text, mark)
+        }
+        None => put_text(text, at, b",-"),
     }
 }
 
-fn put_late_u8(text: &mut Room, at: usize, late: OptU8) -> usize {
-    match late {
-        OptU8::Some(n) => put_marked(text, at, b',', n as usize),
-        OptU8::None => put_text(text, at, b",-"),
+impl Put for Connectivity {
+    fn put(self, text: &mut Room, at: usize) -> usize {
+        let numbers = [
+            self.link_quality_3 as usize,
+            self.link_quality_2 as usize,
+            self.link_quality_1 as usize,
+            self.leader_cost as usize,
+            self.id_sequence as usize,
+            self.active_routers as usize,
+        ];
+        let priority = put_priority(text, at, self.parent_priority);
+        let early = put_numbers(text, priority, b',', &numbers);
+        let buffer = put_late(text, early, self.rx_off_child_buffer_size);
+        put_late(text, buffer, self.rx_off_child_datagram_count)
     }
 }
 
-pub(crate) fn put_connectivity(text: &mut Room, at: usize, c: Connectivity) -> usize {
-    let numbers = [
-        c.link_quality_3 as usize,
-        c.link_quality_2 as usize,
-        c.link_quality_1 as usize,
-        c.leader_cost as usize,
-        c.id_sequence as usize,
-        c.active_routers as usize,
-    ];
-    let priority = put_priority(text, at, c.parent_priority);
-    let early = put_numbers(text, priority, b',', &numbers);
-    let size = c.rx_off_child_buffer_size;
-    let count = c.rx_off_child_datagram_count;
-    let buffer = put_late_u16(text, early, size);
-    put_late_u8(text, buffer, count)
+impl Put for LeaderData {
+    fn put(self, text: &mut Room, at: usize) -> usize {
+        let numbers = [
+            self.weighting as usize,
+            self.data_version as usize,
+            self.stable_data_version as usize,
+            self.router_id as usize,
+        ];
+        let partition = put_number(text, at, self.partition_id as u64);
+        put_numbers(text, partition, b',', &numbers)
+    }
 }
 
-pub(crate) fn put_leader_data(text: &mut Room, at: usize, d: LeaderData) -> usize {
-    let numbers = [
-        d.weighting as usize,
-        d.data_version as usize,
-        d.stable_data_version as usize,
-        d.router_id as usize,
-    ];
-    let partition = put_number(text, at, d.partition_id as u64);
-    put_numbers(text, partition, b',', &numbers)
-}
-
-pub(crate) fn put_mac_counters(text: &mut Room, at: usize, c: MacCounters) -> usize {
-    let numbers = [
-        c.if_in_errors as usize,
-        c.if_out_errors as usize,
-        c.if_in_ucast_pkts as usize,
-        c.if_in_broadcast_pkts as usize,
-        c.if_in_discards as usize,
-        c.if_out_ucast_pkts as usize,
-        c.if_out_broadcast_pkts as usize,
-        c.if_out_discards as usize,
-    ];
-    let first = put_number(text, at, c.if_in_unknown_protos as u64);
-    put_numbers(text, first, b',', &numbers)
+impl Put for MacCounters {
+    fn put(self, text: &mut Room, at: usize) -> usize {
+        let numbers = [
+            self.if_in_errors as usize,
+            self.if_out_errors as usize,
+            self.if_in_ucast_pkts as usize,
+            self.if_in_broadcast_pkts as usize,
+            self.if_in_discards as usize,
+            self.if_out_ucast_pkts as usize,
+            self.if_out_broadcast_pkts as usize,
+            self.if_out_discards as usize,
+        ];
+        let first = put_number(text, at, self.if_in_unknown_protos as u64);
+        put_numbers(text, first, b',', &numbers)
+    }
 }
 
 // The sequence and the mask; the rows come after it.
@@ -116,11 +119,9 @@ pub(crate) fn put_rows(text: &mut Room, at: usize, rows: Rows, s: &[u8], n: usiz
         return put_byte(text, at, b'-');
     }
     let mut next = put_row(text, at, rows, s, 0);
-    let mut k = 1;
-    while k < n {
+    for k in 1..n {
         let slash = put_byte(text, next, b'/');
         next = put_row(text, slash, rows, s, k);
-        k += 1;
     }
     next
 }

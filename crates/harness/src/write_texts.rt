@@ -13,7 +13,7 @@ use fields::{Fields, fields_of};
 use lent_tables::{route64_of, tables_of};
 use network_bridge::PLACES;
 use record::record_of;
-use refusal::Written;
+use refusal::Refusal;
 use rows::rows_of;
 use writing_bridge::{CHILD_PLACES, LIST_PLACES, Lengths};
 
@@ -29,7 +29,7 @@ fn all_places() -> Lengths {
 }
 
 // Makes the call. The bytes that the words spell are in the request, which is lent for the parts.
-fn write_made(line: &[u8], request: &Room, f: Fields, lent: &mut [u8]) -> Written {
+fn write_made(line: &[u8], request: &Room, f: Fields, lent: &mut [u8]) -> Result<usize, Refusal> {
     let net_diag = record_of(line, f);
     let route64 = route64_of(line, request, f);
     let tables = tables_of(line, request, f);

@@ -8,7 +8,8 @@ use Rattle.refusal.specs.Answer.{Answer, given, absent, refused, on_given, then_
 use Rattle.refusal.specs.Every.{Every}
 use Rattle.tlv.specs.Entries.{Entry}
 use Rattle.tlv.specs.Limits.{framed}
-use Rattle.tlv_last.specs.Last.{Spot, spot, value_or, last_of, last_entry, last_spot, last_value}
+use Rattle.tlv_last.specs.Last.{spot, value_or, last_of, last_entry, last_spot, last_value}
+use Rattle.tlv_last.specs.declared.Spot.{Spot}
 use Rattle.tlv_last.proofs.Lasts.{Other, over_others, last_counts, found_all, Lacks, absent_lacks}
 use Rattle.house_template.specs.Template.{Supply, site, template, whichever, on_supply, site_first, supplied, supplied_spot, supplied_value}
 

@@ -5,7 +5,8 @@
 use Rattle.std.specs.Prelude.{ℕ, List}
 use Rattle.refusal.specs.Answer.{Answer, given, absent, refused, on_given}
 use Rattle.tlv.specs.Entries.{Entry}
-use Rattle.tlv_last.specs.Last.{last_entry, Spot, spot, value_or}
+use Rattle.tlv_last.specs.Last.{last_entry, spot, value_or}
+use Rattle.tlv_last.specs.declared.Spot.{Spot}
 
 -- what is supplied, and by which of the two
 pub data Supply (A : Type 0) : Type 0 where

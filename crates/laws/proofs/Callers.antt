@@ -1,4 +1,4 @@
--- What the caller of a writer learns, whose contract is `output (written_answer r) left ≡ emit a out`: by what r is.
+-- What the caller of a writer learns, whose contract is `output (answer_of r) left ≡ emit a out`: by what r is.
 -- Assumes nothing.
 use mathlib.Core.Path.{◌≡◌, refl, sym, ap, ◌∙◌}
 use mathlib.Core.List.{List, ◌++◌}

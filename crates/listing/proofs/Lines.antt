@@ -1,16 +1,11 @@
 -- The laws of the lines: their lengths, and one entry more at a time.
 -- Assumes nothing.
-use mathlib.Core.Path.{◌≡◌, refl, sym, ap}
+use mathlib.Core.Path.{◌≡◌, refl}
 use mathlib.Core.List.{List, [], ◌∷◌, ◌++◌}
 use Prim.Native.Nat.{ℕ, suc, ◌+◌, ◌^◌, ◌≤◌, ◌<◌}
 use native.Mathlib.Omega.{arith}
 use lib.ListN.{length, length-append}
-use Rattle.laws.proofs.Parts.{length_part}
-use Rattle.tlv.specs.declared.Frame.{Frame}
-use Rattle.tlv.specs.declared.Frame.TheVariants as f
-use Rattle.tlv.specs.Entries.{Entry, Framing, framing}
-use Rattle.tlv.specs.Place.{frame_at}
-use Rattle.tlv.proofs.Walks.{from, from_start, turn_inside, turn_entries, turn_end, turn_cut}
+use Rattle.tlv.specs.Entries.{Entry}
 use Rattle.text_writing.specs.Decimal.{decimal}
 use Rattle.text_writing.proofs.Decimals.{length_below}
 use Rattle.listing.specs.Listing.{pair_line, first_line, entry_lines, listing}
@@ -32,21 +27,11 @@ unfolding listing first_line
 length_listing es =
     omega (arith, length-append (decimal (length es) ++ (10 ∷ [])) (entry_lines es), length-append (decimal (length es)) (10 ∷ []))
 
-pub lines_start : (s : List ℕ) → entry_lines (from s 0).entries ≡ entry_lines (framing s).entries
-lines_start s = ap (λ (w : Framing). entry_lines w.entries) (from_start s)
-
--- a turn of a loop over the entries: the lines from its place on
-module _ (s : List ℕ) (at : ℕ) (r : Frame) (found : r ≡ frame_at s at) (t a n : ℕ) (e : r ≡ f.Entry t a n) where
-  pub lines_turn : pair_line t n ++ entry_lines (from s (a + n)).entries ≡ entry_lines (from s at).entries
-  unfolding entry_lines
-  lines_turn = sym (rw (turn_entries s at r found t a n e, length_part s a n (turn_inside s at r found t a n e).1))
-
-pub lines_end : (s : List ℕ) (at : ℕ) → (from s at).entries ≡ [] → [] ≡ entry_lines (from s at).entries
+-- one entry more, and none
+pub lines_more : (e : Entry) (es : List Entry) → pair_line e.ty (length e.value) ++ entry_lines es ≡ entry_lines (e ∷ es)
 unfolding entry_lines
-lines_end s at e = sym (ap entry_lines e)
+lines_more e es = refl
 
--- the arm of a `match` for whatever is no entry
-pub no_entry : (s : List ℕ) (at : ℕ) (r : Frame) → r ≡ frame_at s at → ((t a n : ℕ) → r ≡ f.Entry t a n → ⊥) → (from s at).entries ≡ []
-no_entry s at f.End found never = ap (λ (w : Framing). w.entries) (turn_end s at f.End found refl)
-no_entry s at f.Cut found never = ap (λ (w : Framing). w.entries) (turn_cut s at f.Cut found refl)
-no_entry s at (f.Entry t a n) found never = absurd (never t a n refl)
+pub lines_none : [] ≡ entry_lines []
+unfolding entry_lines
+lines_none = refl

@@ -17,9 +17,9 @@ use Rattle.base16.proofs.Decodes.{decoded_large}
 use Rattle.listing.specs.Listing.{pair_line, hex_by, line_of, refused_line, told, report_by, report_reads}
 
 module _ (x : List ℕ) where
-  pub line_dropped : get_or x (length x - 1) 0 ≡ 10 → length x - 1 ≡ length (line_of x)
+  pub line_dropped : get_or x (length x - 1) 0 ≡ 10 → length (take (length x - 1) x) ≡ length (line_of x)
   unfolding line_of
-  line_dropped h = simp (eq-eqb _ _ h) (sym (length-take-le (length x - 1) x (omega arith)))
+  line_dropped h = simp (eq-eqb _ _ h)
 
   pub line_whole : (get_or x (length x - 1) 0 ≡ 10 → ⊥) → length x ≡ length (line_of x)
   unfolding line_of
@@ -37,7 +37,7 @@ module _ (x : List ℕ) where
 pub line_part : (x : List ℕ) (n : ℕ) → n ≡ length (line_of x) → take (n - 0) x ≡ line_of x
 line_part x n e = ap (λ (k : ℕ). take k x) (sub-zero n ∙ e) ∙ (line_start x).1
 
-pub line_none : (x : List ℕ) → length x ≡ 0 → 0 ≡ length (line_of x)
+pub line_none : (x : List ℕ) → length x < 1 → length x ≡ length (line_of x)
 unfolding line_of
 line_none [] h = refl
 line_none (b ∷ x) h = absurd (omega arith)

@@ -5,10 +5,11 @@ use mathlib.Core.List.{List}
 use Prim.Native.Nat.{ℕ, ◌<◌}
 use native.Mathlib.Omega.{arith}
 use borrow.Author.Tests.{eq-eqb, ne_eqb}
+use Rattle.std.specs.Prelude.{Result, Ok, Err}
 use Rattle.refusal.specs.Answer.{Answer, given, refused}
-use Rattle.refusal.specs.Output.{output, emit, written_answer}
-use Rattle.refusal.specs.declared.Written.{Written}
-use Rattle.refusal.specs.declared.Written.TheVariants as w
+use Rattle.refusal.specs.Output.{output, emit}
+use Rattle.refusal.specs.Results.{answer_of}
+use Rattle.refusal.specs.declared.Refusal.{Refusal}
 use Rattle.listing.specs.Listing.{refused_line, telling, told}
 use Rattle.laws.proofs.Callers.{Refuses, itself, no_room, gave, refuses}
 
@@ -51,6 +52,6 @@ module _ (a : Answer (List ℕ)) (never : (n p i : ℕ) → a ≡ refused n p i 
           sym (telling_other n p i left (λ h. omega arith)) ∙ rw (kept, told_refusal a n p i is)
       by (no_room text is _ eleven) = sym (telling_eleven n p i left eleven) ∙ e ∙ told_text a out text is
 
-  pub tells : (w : Written) → output (written_answer w) left ≡ emit a out → telling (written_answer w) left ≡ emit (given (told a)) out
-  tells (w.Bytes n) e = tells_given n e
-  tells (w.Refused r) e = tells_refused _ _ _ e
+  pub tells : (w : Result ℕ Refusal) → output (answer_of w) left ≡ emit a out → telling (answer_of w) left ≡ emit (given (told a)) out
+  tells (Ok n) e = tells_given n e
+  tells (Err r) e = tells_refused _ _ _ e

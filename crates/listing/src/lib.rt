@@ -3,13 +3,13 @@
 
 ghost use Rattle.std.specs.Prelude.{◌≡◌, [], ◌∷◌, length};
 ghost use Rattle.refusal.specs.Answer.{given};
-ghost use Rattle.refusal.specs.Output.{output, emit, placing, written_answer};
+ghost use Rattle.refusal.specs.Output.{output, emit, placing};
+ghost use Rattle.refusal.specs.Results.{answer_of};
 ghost use Rattle.tlv.specs.Entries.{framing};
 ghost use Rattle.text_writing.specs.Laid.{laid};
 ghost use Rattle.listing.specs.Listing.{pair_line, entry_lines, listing, listed, listed_hex, line_of, refused_line, telling, report, report_reads, report_bytes};
 
-use refusal::{Fault, Written};
-use tlv::{Counted, Frame};
+use refusal::{Fault, Refusal};
 
 // A listing program reads no more than this: with one byte more than the digits and their newline, a text that is too long is told apart.
 pub const REPORT_READS: usize = refusal::MAX_DIGITS + 2;
@@ -38,18 +38,10 @@ fn put_lines(s: &[u8], out: &mut [u8], at: usize) -> usize
     ensures { placing result out.new ≡ laid at out.old (entry_lines (framing s.now).entries) }
 {
     let mut next = at;
-    let mut pos: usize = 0;
-    loop {
-        match tlv::frame_at(s, pos) {
-            Frame::Entry { ty, start, len } => {
-                next = put_line(ty as usize, len, out, next);
-                pos = start + len;
-            }
-            _ => {
-                return next;
-            }
-        }
+    for entry in tlv::entries(s) {
+        next = put_line(entry.ty as usize, entry.value.len(), out, next);
     }
+    next
 }
 
 // The listing of the n entries of s into out; the place after it.
@@ -64,46 +56,36 @@ fn put_listing(s: &[u8], n: usize, out: &mut [u8]) -> usize
 }
 
 // The listing of a dataset or payload, at the start of out. Refusals: 1, 2, 3, 11.
-pub fn list(s: &[u8], out: &mut [u8]) -> Written
-    ensures { output (written_answer result) out.new ≡ emit (listed s.now) out.old }
+pub fn list(s: &[u8], out: &mut [u8]) -> Result<usize, Refusal>
+    ensures { output (answer_of result) out.new ≡ emit (listed s.now) out.old }
 {
-    match tlv::count_entries(s, 0) {
-        Counted::Refused(r) => Written::Refused(r),
-        Counted::Entries(n) => {
-            let mut no_room = [0u8; 0];
-            let need = put_listing(s, n, &mut no_room);
-            if need > out.len() {
-                return refusal::refuse(Fault::NoRoom, 0);
-            }
-            put_listing(s, n, out);
-            Written::Bytes(need)
-        }
+    let n = tlv::count_entries(s, 0)?;
+    let mut no_room = [0u8; 0];
+    let need = put_listing(s, n, &mut no_room);
+    if need > out.len() {
+        return refusal::refuse(Fault::NoRoom, 0);
     }
+    put_listing(s, n, out);
+    Ok(need)
 }
 
 // The listing of a dataset or payload in hex text, at the start of out. Refusals: 1, 7, 8, 2, 3, 11.
-pub fn list_hex(text: &[u8], out: &mut [u8]) -> Written
-    ensures { output (written_answer result) out.new ≡ emit (listed_hex text.now) out.old }
+pub fn list_hex(text: &[u8], out: &mut [u8]) -> Result<usize, Refusal>
+    ensures { output (answer_of result) out.new ≡ emit (listed_hex text.now) out.old }
 {
     let mut bytes = [0u8; refusal::MAX_BYTES];
-    match base16::decode(text, &mut bytes) {
-        Written::Refused(r) => Written::Refused(r),
-        Written::Bytes(n) => list(&bytes[0..n], out),
-    }
+    let n = base16::decode(text, &mut bytes)?;
+    list(&bytes[0..n], out)
 }
 
 // How many bytes of input are left where one final newline is dropped.
 pub fn line_end(input: &[u8]) -> usize
     ensures { result ≡ length (line_of input.now) }
 {
-    let n = input.len();
-    if n == 0 {
-        return 0;
+    match input {
+        [line @ .., b'\n'] => line.len(),
+        _ => input.len(),
     }
-    if input[n - 1] == b'\n' {
-        return n - 1;
-    }
-    n
 }
 
 // The line of a refusal into out; the place after it.
@@ -115,27 +97,26 @@ fn put_refused(number: u8, place: usize, out: &mut [u8]) -> usize
 }
 
 // The line of a refusal, at the start of out. Refusal: 11.
-fn write_refused(number: u8, place: usize, out: &mut [u8]) -> Written
-    ensures { output (written_answer result) out.new ≡ emit (given (refused_line number place)) out.old }
+fn write_refused(number: u8, place: usize, out: &mut [u8]) -> Result<usize, Refusal>
+    ensures { output (answer_of result) out.new ≡ emit (given (refused_line number place)) out.old }
 {
     let mut no_room = [0u8; 0];
-    let need = put_refused(number, place, &mut no_room);
-    if need > out.len() {
+    let size = put_refused(number, place, &mut no_room);
+    if size > out.len() {
         return refusal::refuse(Fault::NoRoom, 0);
     }
     put_refused(number, place, out);
-    Written::Bytes(need)
+    Ok(size)
 }
 
 // What a program leaves of a listing's answer: a refusal is told as a line, unless it is 11, which is about the listing. Refusal: 11.
-pub fn tell(written: Written, out: &mut [u8]) -> Written
-    ensures { output (written_answer result) out.new ≡ telling (written_answer written) out.old }
+pub fn tell(written: Result<usize, Refusal>, out: &mut [u8]) -> Result<usize, Refusal>
+    ensures { output (answer_of result) out.new ≡ telling (answer_of written) out.old }
 {
-    let Written::Refused(r) = written else {
+    let Err(r) = written else {
         return written;
     };
-    let fault = r.fault;
-    let number = fault.number();
+    let number = r.fault.number();
     if number == 11 {
         return written;
     }
@@ -143,8 +124,8 @@ pub fn tell(written: Written, out: &mut [u8]) -> Written
 }
 
 // What the program `list` prints for its standard input, at the start of out: the listing, or the refusal as a line. Refusal: 11.
-pub fn report_text(input: &[u8], out: &mut [u8]) -> Written
-    ensures { output (written_answer result) out.new ≡ emit (given (report input.now)) out.old }
+pub fn report_text(input: &[u8], out: &mut [u8]) -> Result<usize, Refusal>
+    ensures { output (answer_of result) out.new ≡ emit (given (report input.now)) out.old }
 {
     let end = line_end(input);
     let written = list_hex(&input[0..end], out);

@@ -3,7 +3,6 @@
 
 ghost use Rattle.std.specs.Prelude.{◌≤◌, length, IfOk};
 
-use refusal::Written;
 use std::io;
 use std::io::{Read, Stdin};
 
@@ -26,7 +25,7 @@ fn main(rt: HostRuntime) -> io::Result<()> {
     let mut input = [0u8; listing::REPORT_READS];
     let mut text = [0u8; nested_listing::REPORT_BYTES];
     let n = read_full(rt.stdin(), &mut input)?;
-    if let Written::Bytes(k) = nested_listing::report_text(&input[..n], &mut text) {
+    if let Ok(k) = nested_listing::report_text(&input[..n], &mut text) {
         rt.write_all(&text[0..k])?;
     }
     Ok(())

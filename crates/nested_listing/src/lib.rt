@@ -3,16 +3,17 @@
 
 ghost use Rattle.std.specs.Prelude.{◌≡◌, [], ◌∷◌, ◌≤◌};
 ghost use Rattle.refusal.specs.Answer.{given};
-ghost use Rattle.refusal.specs.Output.{output, emit, placing, written_answer};
+ghost use Rattle.refusal.specs.Output.{output, emit, placing};
+ghost use Rattle.refusal.specs.Results.{answer_of};
 ghost use Rattle.text_writing.specs.Laid.{laid};
 ghost use Rattle.nested_listing.specs.Tree.{indent, item_line, cut_line};
 ghost use Rattle.nested_listing.specs.Nested.{nested};
 ghost use Rattle.nested_listing.specs.Report.{nested_hex, nested_report, nested_report_bytes};
 ghost use Rattle.nested_listing.specs.Levels.{item_at, held_of, held_by, Opens, list_text, item_text};
 
-use network_framing::{Head, SubTlv};
-use refusal::{Fault, Written};
-use tlv::{Counted, Frame};
+use network_framing::SubTlv;
+use refusal::{Fault, Refusal};
+use tlv::Frame;
 
 // The allowed nesting: entries, TLVs of Network Data, inner TLVs of a prefix.
 const LEVELS: usize = 3;
@@ -77,11 +78,7 @@ fn item_at(nesting: usize, s: &[u8], at: usize) -> Frame
         return Frame::End; // an entry that is cut short: `count_entries` has refused it
     }
     match network_framing::sub_at(s, at) {
-        SubTlv::Item { ty, start, len } => Frame::Entry {
-            ty: ty,
-            start: start,
-            len: len,
-        },
+        SubTlv::Item { ty, start, len } => Frame::Entry { ty, start, len },
         SubTlv::Cut => Frame::Cut,
         SubTlv::End => Frame::End,
     }
@@ -101,8 +98,8 @@ fn holds(nesting: usize, ty: u8, value: &[u8]) -> Held
     if nesting == 2 {
         if ty == 1 {
             return match network_framing::head_at(value, 0, value.len()) {
-                Head::Inner(at) => Held::List(at),
-                Head::Short => Held::Cut,
+                Some(at) => Held::List(at),
+                None => Held::Cut,
             };
         }
     }
@@ -151,37 +148,31 @@ fn put_item(nesting: usize, ty: u8, value: &[u8], out: &mut [u8], at: usize) -> 
 }
 
 // The nested listing of a payload, at the start of out. Refusals: 1, 2, 3, 11.
-pub fn list_nested(s: &[u8], out: &mut [u8]) -> Written
-    ensures { output (written_answer result) out.new ≡ emit (nested s.now) out.old }
+pub fn list_nested(s: &[u8], out: &mut [u8]) -> Result<usize, Refusal>
+    ensures { output (answer_of result) out.new ≡ emit (nested s.now) out.old }
 {
-    match tlv::count_entries(s, 0) {
-        Counted::Refused(r) => Written::Refused(r),
-        Counted::Entries(_) => {
-            let mut no_room = [0u8; 0];
-            let need = put_list(LEVELS, s, &mut no_room, 0);
-            if need > out.len() {
-                return refusal::refuse(Fault::NoRoom, 0);
-            }
-            put_list(LEVELS, s, out, 0);
-            Written::Bytes(need)
-        }
+    tlv::count_entries(s, 0)?;
+    let mut no_room = [0u8; 0];
+    let need = put_list(LEVELS, s, &mut no_room, 0);
+    if need > out.len() {
+        return refusal::refuse(Fault::NoRoom, 0);
     }
+    put_list(LEVELS, s, out, 0);
+    Ok(need)
 }
 
 // The nested listing of a payload in hex text, at the start of out. Refusals: 1, 7, 8, 2, 3, 11.
-pub fn list_nested_hex(text: &[u8], out: &mut [u8]) -> Written
-    ensures { output (written_answer result) out.new ≡ emit (nested_hex text.now) out.old }
+pub fn list_nested_hex(text: &[u8], out: &mut [u8]) -> Result<usize, Refusal>
+    ensures { output (answer_of result) out.new ≡ emit (nested_hex text.now) out.old }
 {
     let mut bytes = [0u8; refusal::MAX_BYTES];
-    match base16::decode(text, &mut bytes) {
-        Written::Refused(r) => Written::Refused(r),
-        Written::Bytes(n) => list_nested(&bytes[0..n], out),
-    }
+    let n = base16::decode(text, &mut bytes)?;
+    list_nested(&bytes[0..n], out)
 }
 
 // What the program `nested` prints for its standard input, at the start of out: the listing, or the refusal as a line. Refusal: 11.
-pub fn report_text(input: &[u8], out: &mut [u8]) -> Written
-    ensures { output (written_answer result) out.new ≡ emit (given (nested_report input.now)) out.old }
+pub fn report_text(input: &[u8], out: &mut [u8]) -> Result<usize, Refusal>
+    ensures { output (answer_of result) out.new ≡ emit (given (nested_report input.now)) out.old }
 {
     let end = listing::line_end(input);
     let written = list_nested_hex(&input[0..end], out);

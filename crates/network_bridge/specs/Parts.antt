@@ -1,9 +1,9 @@
 -- What a call of `decode` leaves in tables of which only the first records are lent.
 -- Assumes nothing.
-use Rattle.std.specs.Prelude.{ℕ, List, ◌++◌, take, drop, ltb}
-use Rattle.refusal.specs.Answer.{pick, Answer}
+use Rattle.std.specs.Prelude.{ℕ, List, ◌++◌, take, drop, min}
+use Rattle.refusal.specs.Answer.{Answer}
+use Rattle.refusal.specs.Results.{answer_of}
 use Rattle.network_data.specs.Decode.{Prefix}
-use Rattle.network_data.specs.Answers.{checked_answer}
 use Rattle.network_plans.specs.Tables.{Outcome, outcome, decoded}
 use Rattle.network_data.specs.declared.PrefixEntry.{PrefixEntry}
 use Rattle.network_data.specs.declared.HasRouteEntry.{HasRouteEntry}
@@ -16,7 +16,7 @@ places = 128
 
 -- so many of them are lent: all where more are asked for
 abbrev pub lent_of : ℕ → ℕ
-lent_of n = pick (ltb places n) places n
+lent_of n = min n places
 
 -- the call on the first p, h and b records of tables
 abbrev pub on_parts : Answer (List Prefix) → List PrefixEntry → ℕ → List HasRouteEntry → ℕ → List BorderRouterEntry → ℕ → Outcome
@@ -29,4 +29,4 @@ left_whole d P p H h B b =
     ((on_parts d P p H h B b).borders ++ drop b B)
 
 abbrev pub outcome_of : Decoded → Outcome
-outcome_of r = outcome (checked_answer r.answer) r.tables.prefixes r.tables.has_route r.tables.border_routers
+outcome_of r = outcome (answer_of r.answer) r.tables.prefixes r.tables.has_route r.tables.border_routers

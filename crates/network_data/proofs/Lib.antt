@@ -2,4 +2,3 @@ pub mod Passes
 pub mod Moved
 pub mod Counted
 pub mod Anywhere
-pub mod Papers

@@ -9,6 +9,7 @@ use lib.ListN.{length, get_or, take, drop, length-drop}
 use lib.Seq.{take_all}
 use lib.Dec.{eqb, leb, ltb}
 use borrow.Author.Tests.{leb-false, ltb-false}
+use Rattle.std.specs.Prelude.{Option, Some, None}
 use Rattle.refusal.specs.Sizes.{most_prefixes}
 use Rattle.refusal.specs.Answer.{pick, Answer, given, absent, refused, then_do}
 use Rattle.laws.proofs.Tests.{pick_all}
@@ -25,8 +26,6 @@ use Rattle.network_data.specs.declared.Counts.{Counts}
 use Rattle.network_data.proofs.Passes.{in_more, in_refused, out_skip, out_more, out_refused}
 use Rattle.network_framing.specs.declared.SubTlv.{SubTlv}
 use Rattle.network_framing.specs.declared.SubTlv.TheVariants.{Item}
-use Rattle.network_framing.specs.declared.Head.{Head}
-use Rattle.network_framing.specs.declared.Head.TheVariants.{Inner, Short}
 
 then_same : {A B : Type 0} (a : Answer A) (f g : A → Answer B) → ((x : A) → f x ≡ g x) → then_do a f ≡ then_do a g
 then_same (given x) f g h = h x
@@ -102,13 +101,13 @@ Begins end (refused n p i) = Unit {0}
 begins : (s : List ℕ) (start end : ℕ) → Begins end (head_answer (head_place s start end))
 unfolding head_place
 begins s start end =
-    pick_all (λ (h : Head). Begins end (head_answer h)) (leb end start) Short _ (λ e. tt) (λ e1.
-    pick_all (λ (h : Head). Begins end (head_answer h)) (ltb (length s) end) Short _ (λ e. tt) (λ e2.
-    pick_all (λ (h : Head). Begins end (head_answer h)) (ltb (end - start) 2) Short _ (λ e. tt) (λ e3.
-    pick_all (λ (h : Head). Begins end (head_answer h)) (ltb (end - start) (2 + bytes_for (get_or s (start + 1) 0))) Short _ (λ e. tt)
+    pick_all (λ (h : Option ℕ). Begins end (head_answer h)) (leb end start) None _ (λ e. tt) (λ e1.
+    pick_all (λ (h : Option ℕ). Begins end (head_answer h)) (ltb (length s) end) None _ (λ e. tt) (λ e2.
+    pick_all (λ (h : Option ℕ). Begins end (head_answer h)) (ltb (end - start) 2) None _ (λ e. tt) (λ e3.
+    pick_all (λ (h : Option ℕ). Begins end (head_answer h)) (ltb (end - start) (2 + bytes_for (get_or s (start + 1) 0))) None _ (λ e. tt)
     (λ e4. omega (arith, leb-false end start e1, ltb-false (end - start) (2 + bytes_for (get_or s (start + 1) 0)) e4)))))
 
-pub head_begins : (s : List ℕ) (start end at : ℕ) (r : Head) → head_answer r ≡ head_at s start end → r ≡ Inner at → at ≤ end
+pub head_begins : (s : List ℕ) (start end at : ℕ) (r : Option ℕ) → head_answer r ≡ head_at s start end → r ≡ Some at → at ≤ end
 head_begins s start end at r told e = rw (head_agrees s start end ∙ sym told ∙ ap head_answer e) at (begins s start end)
 
 counts_are : (d : Counts) (n h b : ℕ) → d.prefixes ≡ n → d.has_routes ≡ h → d.border_routers ≡ b → d ≡ counts n h b
@@ -116,7 +115,7 @@ counts_are d n h b x y z =
     ap (λ (k : ℕ). counts k d.has_routes d.border_routers) x ∙ ap (λ (k : ℕ). counts n k d.border_routers) y ∙ ap (counts n h) z
 
 -- the inner TLVs by themselves, as the code cuts them out, and after one prefix more
-pub inner_value : (p : ℕ) (s : List ℕ) (at : ℕ) (r : Head) → head_answer r ≡ head_at s 0 (length s) → r ≡ Inner at
+pub inner_value : (p : ℕ) (s : List ℕ) (at : ℕ) (r : Option ℕ) → head_answer r ≡ head_at s 0 (length s) → r ≡ Some at
     → (c d : Counts) → d.prefixes ≡ c.prefixes + 1 → d.has_routes ≡ c.has_routes → d.border_routers ≡ c.border_routers
     → check_in p d (walk_in (take (length s - at) (drop at s)) 0 (length (take (length s - at) (drop at s))))
     ≡ check_in p (counts (c.prefixes + 1) c.has_routes c.border_routers) (walk_in s at (length s))

@@ -1,6 +1,6 @@
 -- What a Network Data value holds: its prefixes, each with its rows (document 01, "Diagnostic values", type 7).
 -- Assumes nothing.
-use Rattle.std.specs.Prelude.{ℕ, zero, suc, ◌+◌, ◌*◌, ◌/◌, ◌%◌, List, [], ◌∷◌, ◌++◌, map, length, get_or, drop, replicate, eqb, ltb}
+use Rattle.std.specs.Prelude.{ℕ, zero, suc, ◌+◌, ◌*◌, ◌/◌, ◌%◌, List, [], ◌∷◌, ◌++◌, map, length, get_or, drop, replicate, eqb, ltb, Option, Some, None}
 use Rattle.refusal.specs.Sizes.{most_bytes}
 use Rattle.refusal.specs.Answer.{pick, Answer, given, absent, refused, on_given}
 use Rattle.network_framing.specs.Tlvs.{Piece, opened, domain_of, bits_of, bytes_of}
@@ -10,8 +10,6 @@ use Rattle.network_data.specs.declared.Counts.{Counts}
 use Rattle.network_data.specs.declared.HasRouteEntry.{HasRouteEntry}
 use Rattle.network_data.specs.declared.BorderRouterEntry.{BorderRouterEntry}
 use Rattle.network_data.specs.declared.SixLowPanContext.{SixLowPanContext}
-use Rattle.network_data.specs.declared.OptContext.{OptContext}
-use Rattle.network_data.specs.declared.OptContext.TheVariants as o
 use Rattle.network_data.specs.declared.PrefixEntry.{PrefixEntry}
 
 -- "rows of 3 (RLOC16; preference 2 bits, NAT64 1)"
@@ -116,10 +114,10 @@ counts_of ps = counts (length ps) (length (all_routes ps)) (length (all_borders 
 unfoldable pub padded : List ℕ → List ℕ
 padded bs = bs ++ drop (length bs) (replicate 32 0)
 
-unfoldable pub opt_context : Answer SixLowPanContext → OptContext
-opt_context (given x) = o.Some x
-opt_context absent = o.None
-opt_context (refused n p i) = o.None
+unfoldable pub opt_context : Answer SixLowPanContext → Option SixLowPanContext
+opt_context (given x) = Some x
+opt_context absent = None
+opt_context (refused n p i) = None
 
 unfoldable pub entry_of : Prefix → PrefixEntry
 entry_of p = record {

@@ -1,3 +1,2 @@
 pub mod Rules
 pub mod Decode
-pub mod Answers

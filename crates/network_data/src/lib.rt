@@ -6,12 +6,12 @@ mod checks;
 ghost use Rattle.std.specs.Prelude.{◌≡◌, ◌∷◌};
 ghost use Rattle.refusal.specs.Sizes.{most_prefixes, most_has_routes, most_border_routers};
 ghost use Rattle.refusal.specs.Answer.{on_given};
+ghost use Rattle.refusal.specs.Results.{answer_of};
 ghost use Rattle.network_data.specs.Rules.{tlv_types, row_sizes};
 ghost use Rattle.network_data.specs.Decode.{decode_network_data, counts_of};
-ghost use Rattle.network_data.specs.Answers.{checked_answer};
 
-use checks::{check_items, refuse};
-use refusal::{Fault, Refusal};
+use checks::check_items;
+use refusal::{Fault, Refusal, refuse};
 
 // A value has at most so many prefixes, and over all of them so many rows of each kind.
 pub const MAX_PREFIXES: usize = 64;
@@ -84,19 +84,13 @@ pub struct SixLowPanContext {
     pub context_length: u8,
 }
 
-#[derive(Clone, Copy)]
-pub enum OptContext {
-    Some(SixLowPanContext),
-    None,
-}
-
 // A prefix: its bytes, with zeros after them, and how many rows of each kind are its own.
 #[derive(Clone, Copy)]
 pub struct PrefixEntry {
     pub domain_id: u8,
     pub prefix_bit_length: u8,
     pub prefix: [u8; 32],
-    pub six_low_pan_context: OptContext,
+    pub six_low_pan_context: Option<SixLowPanContext>,
     pub has_routes: usize,
     pub border_routers: usize,
 }
@@ -109,15 +103,9 @@ pub struct Counts {
     pub border_routers: usize,
 }
 
-#[derive(Clone, Copy)]
-pub enum Checked {
-    Counted(Counts),
-    Refused(Refusal),
-}
-
 // How many records a value has. Refusals: 1, then 4, 5 and 12, the first met, at the place of its entry, which is 0 for a bare value.
-pub fn check(value: &[u8], place: usize) -> Checked
-    ensures { checked_answer result ≡ on_given counts_of (decode_network_data place value.now) }
+pub fn check(value: &[u8], place: usize) -> Result<Counts, Refusal>
+    ensures { answer_of result ≡ on_given counts_of (decode_network_data place value.now) }
 {
     if value.len() > refusal::MAX_BYTES {
         return refuse(Fault::TooLarge, 0);

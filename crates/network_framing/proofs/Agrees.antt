@@ -9,7 +9,9 @@ use lib.ListN.{length, get_or, take, drop}
 use lib.Seq.{get_or-drop, get_or-take, length-take-le, drop-cons, take-take}
 use lib.Dec.{leb, ltb}
 use borrow.Author.Tests.{le-leb, lt-leb, lt-ltb, le-ltb, leb-true, leb-false, ltb-false}
-use Rattle.refusal.proofs.Papers.{Tells, tells, code_of}
+use Rattle.std.specs.Prelude.{Option, Some, None}
+use Rattle.refusal.specs.Answer.{Answer, given, absent, refused}
+use Rattle.refusal.proofs.Papers.{Tells, tells}
 use Rattle.laws.proofs.Tests.{by_test}
 use Rattle.laws.proofs.Parts.{length_part}
 use Rattle.network_framing.specs.Tlvs.{first, opening, opened, bytes_for, domain_of, bits_of, bytes_of, Piece}
@@ -17,16 +19,23 @@ use Rattle.network_framing.specs.Frame.{part, sub_of, sub_in, inner_of, head_at,
 use Rattle.network_framing.specs.Place.{sub_place, head_place}
 use Rattle.network_framing.specs.declared.SubTlv.{SubTlv}
 use Rattle.network_framing.specs.declared.SubTlv.TheVariants.{Item, Cut, End}
-use Rattle.network_framing.specs.declared.Head.{Head}
-use Rattle.network_framing.specs.declared.Head.TheVariants.{Inner, Short}
 
 -- the meanings tell the code's answers apart
+abbrev sub_from : Answer Piece → SubTlv
+sub_from (given e) = Item e.ty e.start e.len
+sub_from absent = End
+sub_from (refused n p i) = Cut
+
 pub sub_tells : Tells sub_answer
-sub_tells =
-    tells sub_answer (code_of (λ (e : Piece). Item e.ty e.start e.len) End (λ r. Cut)) (elim [ Item t a n ↦ refl | Cut ↦ refl | End ↦ refl ])
+sub_tells = tells sub_answer sub_from (elim [ Item t a n ↦ refl | Cut ↦ refl | End ↦ refl ])
+
+abbrev head_from : Answer ℕ → Option ℕ
+head_from (given at) = Some at
+head_from absent = None
+head_from (refused n p i) = None
 
 pub head_tells : Tells head_answer
-head_tells = tells head_answer (code_of Inner Short (λ r. Short)) (elim [ Inner at ↦ refl | Short ↦ refl ])
+head_tells = tells head_answer head_from (elim [ Some at ↦ refl | None ↦ refl ])
 
 -- a part that is all there, byte by byte
 module _ (s : List ℕ) (at end : ℕ) (less : at < end) (room : end ≤ length s) where
@@ -122,7 +131,7 @@ module _ (s : List ℕ) (start end : ℕ) (whole : start + (2 + bytes_for (get_o
 pub sub_is : (s : List ℕ) (at end : ℕ) (r : SubTlv) → r ≡ sub_place s at end → sub_answer r ≡ sub_in s at end
 sub_is s at end r e = ap sub_answer e ∙ sub_agrees s at end
 
-pub head_is : (s : List ℕ) (start end : ℕ) (r : Head) → r ≡ head_place s start end → head_answer r ≡ head_at s start end
+pub head_is : (s : List ℕ) (start end : ℕ) (r : Option ℕ) → r ≡ head_place s start end → head_answer r ≡ head_at s start end
 head_is s start end r e = ap head_answer e ∙ head_agrees s start end
 
 -- the same for numbers that are equal to those of the definition, however the code comes by them
@@ -139,11 +148,11 @@ module _ (s : List ℕ) (at end : ℕ) (less : at < end) (room : end ≤ length 
     sub_cut over = sub_is s at end Cut (simp (lt-leb _ _ less, le-ltb _ _ room, le-ltb _ _ two, lt-leb _ _ (rw long at over)))
 
   module _ (n : ℕ) (own : n ≡ 2 + bytes_for (get_or s (at + 1) 0)) where
-    pub head_inner : (a : ℕ) → a ≡ at + n → n ≤ end - at → head_answer (Inner a) ≡ head_at s at end
+    pub head_inner : (a : ℕ) → a ≡ at + n → n ≤ end - at → head_answer (Some a) ≡ head_at s at end
     unfolding head_place
     head_inner a start fits =
-        head_is s at end (Inner a) (rw (start, own) (simp (lt-leb _ _ less, le-ltb _ _ room, le-ltb _ _ two, le-ltb _ _ (rw own at fits))))
+        head_is s at end (Some a) (rw (start, own) (simp (lt-leb _ _ less, le-ltb _ _ room, le-ltb _ _ two, le-ltb _ _ (rw own at fits))))
 
-    pub head_short : end - at < n → head_answer Short ≡ head_at s at end
+    pub head_short : end - at < n → head_answer None ≡ head_at s at end
     unfolding head_place
-    head_short over = head_is s at end Short (simp (lt-leb _ _ less, le-ltb _ _ room, le-ltb _ _ two, lt-ltb _ _ (rw own at over)))
+    head_short over = head_is s at end None (simp (lt-leb _ _ less, le-ltb _ _ room, le-ltb _ _ two, lt-ltb _ _ (rw own at over)))

@@ -4,9 +4,6 @@
 use mathlib.Core.Path.{◌≡◌, refl, sym, ap, ◌∙◌, subst}
 use mathlib.Core.List.{List, [], ◌∷◌}
 use mathlib.Core.Bool.{true, false}
-use mathlib.Core.Logic.{⊎_elim}
-use types.Run.{OneOf}
-use denote.Enum.Declared.{tag_of}
 use Prim.Native.Nat.{ℕ, zero, suc, ◌+◌, ◌-◌, ◌≤◌, ◌<◌}
 use native.Mathlib.Omega.{arith}
 use native.Mathlib.Nat.{sub-zero}
@@ -20,7 +17,6 @@ use Rattle.network_framing.specs.Tlvs.{First, none, cut, one, first, opened, Wal
 use Rattle.network_framing.specs.Frame.{part, sub_in, inner_of, head_at, walk_in, sub_answer}
 use Rattle.network_framing.specs.Place.{sub_place}
 use Rattle.network_framing.proofs.Agrees.{sub_tells, sub_agrees, size_is, byte_is, first_is}
-use Rattle.network_framing.specs.contracts.SubTlv
 use Rattle.network_framing.specs.declared.SubTlv.{SubTlv}
 use Rattle.network_framing.specs.declared.SubTlv.TheVariants.{Item, Cut, End}
 
@@ -197,8 +193,8 @@ module _ (s : List ℕ) (at end : ℕ) (r : SubTlv) (told : sub_answer r ≡ sub
     pub turn_items : (walk_in s at end).items ≡ piece t a n ∷ (walk_in s (a + n) end).items
     turn_items = ap (λ (w : Walk). w.items) turn_item
 
--- the arm of a `match` for whatever is no TLV
-pub turn_none : (s : List ℕ) (at end : ℕ) (r : SubTlv) → sub_answer r ≡ sub_in s at end → OneOf (1 ∷ 2 ∷ []) (tag_of SubTlv.the_type r) → (walk_in s at end).items ≡ []
+-- where a walk ends: there is no TLV
+pub turn_none : (s : List ℕ) (at end : ℕ) (r : SubTlv) → sub_answer r ≡ sub_in s at end → ((t a n : ℕ) → r ≡ Item t a n → ⊥) → (walk_in s at end).items ≡ []
 turn_none s at end End found k = ap (λ (w : Walk). w.items) (turn_end s at end End found refl)
 turn_none s at end Cut found k = ap (λ (w : Walk). w.items) (turn_cut s at end Cut found refl)
-turn_none s at end (Item t a n) found k = ⊎_elim (λ e. absurd (omega arith)) (λ e. absurd (omega arith)) k
+turn_none s at end (Item t a n) found k = absurd (k t a n refl)

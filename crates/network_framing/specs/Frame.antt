@@ -1,13 +1,11 @@
 -- What stands in a part of a value, and what the code's answers say of it, with document 01's number: "5: a ... Network Data TLV or prefix is cut short". A
 -- function on one value reports place 0.
 -- Assumes nothing.
-use Rattle.std.specs.Prelude.{ℕ, ◌+◌, ◌-◌, List, length, take, drop, ltb, leb}
+use Rattle.std.specs.Prelude.{ℕ, ◌+◌, ◌-◌, List, length, take, drop, ltb, leb, Option, Some, None}
 use Rattle.refusal.specs.Answer.{pick, Answer, given, absent, refused}
 use Rattle.network_framing.specs.Tlvs.{First, none, cut, one, first, Opening, broken, opening, opened, Piece, piece, Walk, clean, short, done, frames}
 use Rattle.network_framing.specs.declared.SubTlv.{SubTlv}
 use Rattle.network_framing.specs.declared.SubTlv.TheVariants.{Item, Cut, End}
-use Rattle.network_framing.specs.declared.Head.{Head}
-use Rattle.network_framing.specs.declared.Head.TheVariants.{Inner, Short}
 
 -- the bytes of s from the place at to the place end
 abbrev pub part : List ℕ → (at end : ℕ) → List ℕ
@@ -45,6 +43,6 @@ sub_answer (Item t a n) = given (piece t a n)
 sub_answer Cut = refused 5 0 0
 sub_answer End = absent
 
-abbrev pub head_answer : Head → Answer ℕ
-head_answer (Inner at) = given at
-head_answer Short = refused 5 0 0
+abbrev pub head_answer : Option ℕ → Answer ℕ
+head_answer (Some at) = given at
+head_answer None = refused 5 0 0

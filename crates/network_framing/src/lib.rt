@@ -12,13 +12,6 @@ pub enum SubTlv {
     End,
 }
 
-// The place where a prefix's inner TLVs begin, after its own bytes. Short is refusal 5.
-#[derive(Clone, Copy)]
-pub enum Head {
-    Inner(usize),
-    Short,
-}
-
 // What stands at a place of s, before the place end. The step of every walk over TLVs.
 pub fn sub_in(s: &[u8], at: usize, end: usize) -> SubTlv
     ensures { sub_answer result ≡ sub_in s.now at end }
@@ -37,7 +30,7 @@ pub fn sub_in(s: &[u8], at: usize, end: usize) -> SubTlv
         return SubTlv::Item {
             ty: s[at] / 2,
             start: at + 2,
-            len: len,
+            len,
         };
     }
     SubTlv::Cut
@@ -51,22 +44,22 @@ pub fn sub_at(s: &[u8], at: usize) -> SubTlv
 }
 
 // Of a prefix whose value stands from start to end.
-pub fn head_at(s: &[u8], start: usize, end: usize) -> Head
+pub fn head_at(s: &[u8], start: usize, end: usize) -> Option<usize>
     ensures { head_answer result ≡ head_at s.now start end }
 {
     if end <= start {
-        return Head::Short;
+        return None;
     }
     if s.len() < end {
-        return Head::Short; // there is no byte past the last
+        return None; // there is no byte past the last
     }
     let n = end - start;
     if n < 2 {
-        return Head::Short;
+        return None;
     }
     let need = 2 + (s[start + 1] as usize + 7) / 8;
     if n < need {
-        return Head::Short;
+        return None;
     }
-    Head::Inner(start + need)
+    Some(start + need)
 }

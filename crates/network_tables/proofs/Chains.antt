@@ -9,6 +9,7 @@ use lib.ListN.{length, get_or}
 use lib.Dec.{eqb, ltb, leb}
 use borrow.Author.Tests.{ltb-false}
 use Rattle.tables.specs.Tab.{tab, steps}
+use Rattle.std.specs.Prelude.{Option, Some, None}
 use Rattle.refusal.specs.Answer.{pick, Answer, given, absent, refused, then_do}
 use Rattle.network_framing.specs.Tlvs.{bytes_for, Walk, Stop, Piece, piece}
 use Rattle.network_framing.specs.Frame.{sub_in, head_at, walk_in, sub_answer, head_answer}
@@ -18,8 +19,6 @@ use Rattle.network_data.specs.Decode.{prefix_at, prefixes, contents, entry_of}
 use Rattle.network_tables.specs.Cursor.{span_of, Whole, SpanHere, entry_at, span_end}
 use Rattle.network_framing.specs.declared.SubTlv.{SubTlv}
 use Rattle.network_framing.specs.declared.SubTlv.TheVariants.{Item, Cut, End}
-use Rattle.network_framing.specs.declared.Head.{Head}
-use Rattle.network_framing.specs.declared.Head.TheVariants.{Inner, Short}
 use Rattle.network_data.specs.declared.Counts.{Counts}
 use Rattle.network_tables.specs.declared.prefixes.Span.{Span}
 use Rattle.network_data.specs.declared.PrefixEntry.{PrefixEntry}
@@ -133,11 +132,11 @@ Fits s start end (refused n p i) = Unit {0}
 place_fits : (s : List ℕ) (start end : ℕ) → Fits s start end (head_answer (head_place s start end))
 unfolding head_place
 place_fits s start end =
-    let P : Head → Type 0 = λ x. Fits s start end (head_answer x) in
-    pick_all P (leb end start) Short _ (λ _. tt) (λ e0.
-    pick_all P (ltb (length s) end) Short _ (λ _. tt) (λ e1.
-    pick_all P (ltb (end - start) 2) Short _ (λ _. tt) (λ e2.
-    pick_all P (ltb (end - start) (2 + bytes_for (get_or s (start + 1) 0))) Short (Inner _) (λ _. tt) (λ e3. omega (arith, ltb-false)))))
+    let P : Option ℕ → Type 0 = λ x. Fits s start end (head_answer x) in
+    pick_all P (leb end start) None _ (λ _. tt) (λ e0.
+    pick_all P (ltb (length s) end) None _ (λ _. tt) (λ e1.
+    pick_all P (ltb (end - start) 2) None _ (λ _. tt) (λ e2.
+    pick_all P (ltb (end - start) (2 + bytes_for (get_or s (start + 1) 0))) None (Some _) (λ _. tt) (λ e3. omega (arith, ltb-false)))))
 
 head_fits : (s : List ℕ) (start end : ℕ) → Fits s start end (head_at s start end)
 head_fits s start end = subst (Fits s start end) (head_agrees s start end) (place_fits s start end)

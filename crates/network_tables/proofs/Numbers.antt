@@ -18,7 +18,7 @@ use Rattle.network_data.specs.Decode.{Prefix, contents, decode_network_data, all
 use Rattle.refusal.specs.Numbered.{nth}
 use Rattle.network_tables.specs.Cursor.{first_row, next_row, RowsTo, route_of, border_of, SpansTo, entry_at, span_end}
 use Rattle.network_data.specs.declared.Counts.{Counts}
-use Rattle.network_data.proofs.Counted.{counted, too_large, counted_given, counted_refused}
+use Rattle.network_data.proofs.Counted.{counted, too_large, counted_given}
 use Rattle.network_tables.proofs.Chains.{Heads, prefix_rows, prefix_here, checked_heads}
 use Rattle.network_tables.proofs.Rowed.{route_rows, route_here, border_rows, border_here}
 
@@ -39,9 +39,6 @@ module _ {A : Type 0} (s : List ℕ) (all : List Prefix → List A) where
   abbrev numbered : ℕ → Answer A
   numbered i = then_do (decode_network_data 0 s) (λ (ps : List Prefix). nth (all ps) i)
 
-  at_refused : (n p j i : ℕ) → refused n p j ≡ on_given counts_of (decode_network_data 0 s) → refused n p j ≡ numbered i
-  at_refused n p j i told = sym (ap (λ (d : Answer (List Prefix)). then_do d (λ (ps : List Prefix). nth (all ps) i)) (counted_refused 0 s n p j told))
-
   module _ (c : Counts) (told : given c ≡ on_given counts_of (decode_network_data 0 s)) where
     at_contents : (i : ℕ) → nth (all (contents s)) i ≡ numbered i
     at_contents i = sym (ap (λ (d : Answer (List Prefix)). then_do d (λ (ps : List Prefix). nth (all ps) i)) (counted_given 0 s c told))
@@ -53,15 +50,6 @@ module _ {A : Type 0} (s : List ℕ) (all : List Prefix → List A) where
     at_given f is i h = sym (nth_tab (length (all (contents s))) f i h) ∙ ap (λ l. nth l i) is ∙ at_contents i
 
 module _ (s : List ℕ) where
-  pub route_refused : (n p j i : ℕ) → refused n p j ≡ on_given counts_of (decode_network_data 0 s) → refused n p j ≡ then_do (decode_network_data 0 s) (λ (ps : List Prefix). nth (all_routes ps) i)
-  route_refused = at_refused s all_routes
-
-  pub border_refused : (n p j i : ℕ) → refused n p j ≡ on_given counts_of (decode_network_data 0 s) → refused n p j ≡ then_do (decode_network_data 0 s) (λ (ps : List Prefix). nth (all_borders ps) i)
-  border_refused = at_refused s all_borders
-
-  pub prefix_refused : (n p j i : ℕ) → refused n p j ≡ on_given counts_of (decode_network_data 0 s) → refused n p j ≡ then_do (decode_network_data 0 s) (λ (ps : List Prefix). nth (map entry_of ps) i)
-  prefix_refused = at_refused s (map entry_of)
-
   module _ (c : Counts) (told : given c ≡ on_given counts_of (decode_network_data 0 s)) where
     pub is_counts : c ≡ counts_of (contents s)
     is_counts =

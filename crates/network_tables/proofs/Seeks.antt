@@ -2,24 +2,20 @@
 -- Assumes nothing.
 use mathlib.Core.Path.{◌≡◌, refl, sym, ap, ◌∙◌}
 use mathlib.Core.List.{List, [], ◌∷◌, ◌++◌}
-use Prim.Native.Nat.{ℕ, suc, ◌+◌, ◌-◌, ◌/◌, ◌≤◌, ◌<◌}
+use Prim.Native.Nat.{ℕ, ◌+◌, ◌-◌, ◌/◌, ◌≤◌, ◌<◌}
 use native.Mathlib.Omega.{arith}
-use native.Mathlib.Numerals.{add-one}
-use lib.ListN.{length, get_or, take, drop, set, replicate, length-append, length-take, length-drop, length-map}
-use lib.Seq.{drop-cons, take-suc, set_at, append_snoc, length-take-le, take_all, get_or-take, get_or-drop}
+use lib.ListN.{length, get_or, take, drop, replicate, length-append, length-take, length-drop, length-map}
 use borrow.Author.Tests.{eq-eqb, ne_eqb, le-ltb, lt-leb}
+use Rattle.std.specs.Prelude.{Some, Option, None}
 use Rattle.refusal.specs.Answer.{Answer, given, absent}
+use Rattle.refusal.specs.Results.{option_of}
 use Rattle.network_framing.specs.Tlvs.{Piece, bytes_for}
 use Rattle.network_framing.specs.Frame.{walk_in, head_at, head_answer}
 use Rattle.network_framing.specs.Place.{head_place}
 use Rattle.network_framing.proofs.Agrees.{head_agrees, domain_is, bits_are, bytes_are}
 use Rattle.network_data.specs.Decode.{places_in, context_at, last_context, head_items, inner, prefix_at, padded, opt_context, entry_of}
 use Rattle.network_tables.specs.Cursor.{rows, or_else, rows_in, rows_out, next_row, span_of, Whole}
-use Rattle.network_framing.specs.declared.Head.TheVariants.{Inner}
 use Rattle.network_data.specs.declared.SixLowPanContext.{SixLowPanContext}
-use Rattle.network_data.specs.declared.OptContext.{OptContext}
-use Rattle.network_data.specs.declared.OptContext.TheVariants as o
-use Rattle.network_tables.specs.Answers.{context_answer}
 use Rattle.network_tables.specs.declared.rows.Rows.{Rows}
 use Rattle.network_tables.specs.declared.prefixes.Span.{Span}
 use Rattle.network_data.proofs.Counted.{places_length}
@@ -127,37 +123,20 @@ module _ (e : Piece) (es : List Piece) where
   span_miss h = simp (ne_eqb _ _ h)
 
 -- ---- bytes, and zeros after them
-pub pad_next : (xs ds : List ℕ) (i : ℕ) → i < length xs → i < length ds → set (take i xs ++ drop i ds) i (get_or xs i 0) ≡ take (i + 1) xs ++ drop (i + 1) ds
-pad_next xs ds i l k =
-    rw add-one
-    (ap (λ (t : List ℕ). set (take i xs ++ t) i (get_or xs i 0)) (drop-cons ds i 0 k)
-    ∙ set_at (take i xs) (get_or ds i 0) (drop (suc i) ds) (get_or xs i 0) i (length-take-le i xs (omega arith))
-    ∙ sym (append_snoc (take i xs) (get_or xs i 0) (drop (suc i) ds))
-    ∙ ap (λ (t : List ℕ). t ++ drop (suc i) ds) (sym (take-suc xs i 0 l)))
-
-module _ (s : List ℕ) (at n : ℕ) (h : at + n ≤ length s) where
-  pub part_length : length (take n (drop at s)) ≡ n
-  part_length = simp (length-take, length-drop) (omega arith)
-
-  pub pad_more : n ≤ 32 → (i : ℕ) → i < n → set (take i (take n (drop at s)) ++ drop i (replicate 32 0)) i (get_or s (at + i) 0) ≡ take (i + 1) (take n (drop at s)) ++ drop (i + 1) (replicate 32 0)
-  pad_more m i l =
-      let e : get_or (take n (drop at s)) i 0 ≡ get_or s (at + i) 0 = get_or-take n (drop at s) i 0 l ∙ get_or-drop at s i 0 in
-      rw (← e) (pad_next (take n (drop at s)) (replicate 32 0) i (omega (arith, part_length)) (omega arith))
-
-  pub pad_all : take n (take n (drop at s)) ++ drop n (replicate 32 0) ≡ padded (take n (drop at s))
-  unfolding padded
-  pad_all =
-      ap (λ (t : List ℕ). t ++ drop n (replicate 32 0)) (take_all n (take n (drop at s)) (omega (arith, part_length)))
-      ∙ ap (λ (k : ℕ). take n (drop at s) ++ drop k (replicate 32 0)) (sym part_length)
+pub padded_part : (s : List ℕ) (at n : ℕ) → at + n ≤ length s → take n (drop at s) ++ drop n (replicate 32 0) ≡ padded (take n (drop at s))
+unfolding padded
+padded_part s at n h =
+    let l : length (take n (drop at s)) ≡ n = simp (length-take, length-drop) (omega arith) in
+    ap (λ (k : ℕ). take n (drop at s) ++ drop k (replicate 32 0)) (sym l)
 
 -- ---- a whole prefix
-context_back : (k : OptContext) → opt_context (context_answer k) ≡ k
+context_back : (k : Option SixLowPanContext) → opt_context (option_of k) ≡ k
 unfolding opt_context
-context_back (o.Some x) = refl
-context_back o.None = refl
+context_back (Some x) = refl
+context_back None = refl
 
 module _ (s : List ℕ) (x : Span) (w : Whole s x) where
-  whole_place : head_place s x.start x.end ≡ Inner (x.start + (2 + bytes_for (get_or s (x.start + 1) 0)))
+  whole_place : head_place s x.start x.end ≡ Some (x.start + (2 + bytes_for (get_or s (x.start + 1) 0)))
   unfolding head_place
   whole_place =
       let a : 2 ≤ x.end - x.start = omega arith in
@@ -174,8 +153,8 @@ module _ (s : List ℕ) (x : Span) (w : Whole s x) where
   unfolding inner head_items
   whole_inner = ap (head_items s x.end) whole_head
 
-  module _ (bs : List ℕ) (k : OptContext) (h b : ℕ) where
-    pub entry_is : bs ≡ padded (take (bytes_for (get_or s (x.start + 1) 0)) (drop (x.start + 2) s)) → context_answer k ≡ last_context s absent items → h ≡ length (places_in 0 3 items) → b ≡ length (places_in 2 4 items)
+  module _ (bs : List ℕ) (k : Option SixLowPanContext) (h b : ℕ) where
+    pub entry_is : bs ≡ padded (take (bytes_for (get_or s (x.start + 1) 0)) (drop (x.start + 2) s)) → option_of k ≡ last_context s absent items → h ≡ length (places_in 0 3 items) → b ≡ length (places_in 2 4 items)
         → record { domain_id = get_or s x.start 0; prefix_bit_length = get_or s (x.start + 1) 0; prefix = bs; six_low_pan_context = k; has_routes = h; border_routers = b } ≡ entry_of (prefix_at s x.start x.end)
     unfolding entry_of prefix_at
     entry_is p q r t =

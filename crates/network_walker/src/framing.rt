@@ -27,6 +27,5 @@ fn rest_at(s: &[u8]) -> usize
 pub(crate) fn rest_of<'a>(s: &'a [u8]) -> &'a [u8]
     ensures { result.now ≡ rest_of s.now }
 {
-    let at = rest_at(s);
-    &s[at..]
+    &s[rest_at(s)..]
 }

@@ -51,6 +51,5 @@ pub fn first_tlv(bytes: &[u8]) -> SubTlv
 pub fn after_first<'a>(bytes: &'a [u8]) -> &'a [u8]
     ensures { result.now ≡ rest_of bytes.now }
 {
-    let walker = NetworkDataTlvIter::new(bytes).rest();
-    walker.bytes
+    NetworkDataTlvIter::new(bytes).rest().bytes
 }

@@ -9,6 +9,7 @@ use lib.ListN.{length, get_or, take, drop, length-append, length-map}
 use lib.Seq.{length-take-le}
 use lib.Dec.{eqb, leb, ltb}
 use borrow.Author.Tests.{leb-true, ltb-false, eqb-true, eq-eqb, le-leb}
+use Rattle.std.specs.Prelude.{Some}
 use Rattle.refusal.specs.Sizes.{most_bytes}
 use Rattle.refusal.specs.Every.{Every, Bytes}
 use Rattle.refusal.specs.Answer.{Answer, given, absent, refused, on_given}
@@ -18,7 +19,6 @@ use Rattle.laws.proofs.Joined.{joined_append}
 use Rattle.network_framing.specs.Tlvs.{bytes_for, Opening, broken, opening, opened, bits_of, bytes_of, Piece}
 use Rattle.network_framing.specs.Frame.{part, head_at, inner_of, walk_in}
 use Rattle.network_framing.specs.Place.{head_place}
-use Rattle.network_framing.specs.declared.Head.TheVariants.{Inner}
 use Rattle.network_framing.proofs.Agrees.{head_agrees, head_tells}
 use Rattle.network_data.specs.Rules.{counts, check_from, check_value}
 use Rattle.network_data.specs.Decode.{route_at, border_at, places_in, Prefix, head_items, inner, prefix_at, prefixes, contents, decode_network_data, counts_of}
@@ -88,7 +88,7 @@ module _ (s : List ℕ) (start end : ℕ) (w : Whole s start end) where
   head_before : w.at ≤ end
   head_before =
       let told = head_agrees s start end in
-      head_begins s start end w.at (head_place s start end) told (head_tells (head_place s start end) (Inner w.at) (told ∙ w.is))
+      head_begins s start end w.at (head_place s start end) told (head_tells (head_place s start end) (Some w.at) (told ∙ w.is))
 
   abbrev es : List Piece
   es = (walk_in s w.at end).items

@@ -8,14 +8,14 @@ use Prim.Native.Nat.{ℕ, zero, suc, ◌-◌, ◌≤◌}
 use native.Mathlib.Omega.{arith}
 use lib.ListN.{length, take, drop, length-drop, take-append-drop}
 use lib.Seq.{take-take, length-take-le, take-nil, drop-nil}
+use Rattle.std.specs.Prelude.{Option, Some, None}
 use Rattle.refusal.specs.Sizes.{most_bytes, most_prefixes, most_has_routes, most_border_routers}
 use Rattle.refusal.specs.Answer.{given}
 use Rattle.network_data.specs.Decode.{Prefix, opt_context, entry_of, all_routes, all_borders, decode_network_data}
 use Rattle.network_data.specs.declared.HasRouteEntry.{HasRouteEntry}
 use Rattle.network_data.specs.declared.BorderRouterEntry.{BorderRouterEntry}
-use Rattle.network_data.specs.declared.OptContext.{OptContext}
-use Rattle.network_data.specs.declared.OptContext.TheVariants as o
 use Rattle.network_data.specs.declared.PrefixEntry.{PrefixEntry}
+use Rattle.network_data.specs.declared.SixLowPanContext.{SixLowPanContext}
 use Rattle.network_writing.specs.Encode.{network_bytes}
 use Rattle.network_writing.specs.Fits.{network_fits}
 use Rattle.network_writing.proofs.Round.{Small, network_back}
@@ -48,10 +48,10 @@ as_many [] hs bs = refl
 as_many (p ∷ es) hs bs = ap suc (as_many es (drop p.has_routes hs) (drop p.border_routers bs))
 
 -- ---- their records
-context_back : (x : OptContext) → opt_context (context_of x) ≡ x
+context_back : (x : Option SixLowPanContext) → opt_context (context_of x) ≡ x
 unfolding opt_context
-context_back (o.Some c) = refl
-context_back o.None = refl
+context_back (Some c) = refl
+context_back None = refl
 
 entry_back : (e : PrefixEntry) (hs : List HasRouteEntry) (bs : List BorderRouterEntry) → length hs ≡ e.has_routes → length bs ≡ e.border_routers → entry_of (prefix_of e hs bs) ≡ tidied e
 unfolding entry_of

@@ -1,19 +1,17 @@
 -- The prefixes that three tables say: each takes its rows from the front of what is left of the two row tables.
 -- Assumes nothing.
-use Rattle.std.specs.Prelude.{ℕ, ◌+◌, List, [], ◌∷◌, take, drop}
+use Rattle.std.specs.Prelude.{ℕ, ◌+◌, List, [], ◌∷◌, take, drop, Option, Some, None}
 use Rattle.refusal.specs.Answer.{Answer, given, absent}
 use Rattle.network_framing.specs.Tlvs.{bytes_for}
 use Rattle.network_data.specs.Decode.{Prefix, padded}
 use Rattle.network_data.specs.declared.HasRouteEntry.{HasRouteEntry}
 use Rattle.network_data.specs.declared.BorderRouterEntry.{BorderRouterEntry}
 use Rattle.network_data.specs.declared.SixLowPanContext.{SixLowPanContext}
-use Rattle.network_data.specs.declared.OptContext.{OptContext}
-use Rattle.network_data.specs.declared.OptContext.TheVariants as o
 use Rattle.network_data.specs.declared.PrefixEntry.{PrefixEntry}
 
-abbrev pub context_of : OptContext → Answer SixLowPanContext
-context_of (o.Some x) = given x
-context_of o.None = absent
+abbrev pub context_of : Option SixLowPanContext → Answer SixLowPanContext
+context_of (Some x) = given x
+context_of None = absent
 
 -- a prefix's record with its rows; of its fixed array the bytes that its bit length asks for
 abbrev pub prefix_of : PrefixEntry → List HasRouteEntry → List BorderRouterEntry → Prefix

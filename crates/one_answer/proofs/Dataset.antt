@@ -1,14 +1,9 @@
 -- One possible answer for each public call of `dataset`, `dataset_raw` and `dataset_parts`.
 -- Assumes nothing.
 use mathlib.Core.Path.{◌∙◌, refl, sym}
-use Rattle.dataset_parts.proofs.Papers.{found_mask_tells}
-use Rattle.plain_values.proofs.Papers.{copy16_tells, copy8_tells}
-use Rattle.timestamps.proofs.Papers.{timestamp_tells}
-use Rattle.tlv_last.proofs.Papers.{found_tells}
-use Rattle.values.proofs.Papers.{channel_tells, policy_tells}
-use Rattle.wire.proofs.Papers.{read16_tells, read32_tells}
 use Rattle.one_answer.proofs.General.{both}
 use Rattle.one_answer.specs.One.{One, OneBy}
+use Rattle.refusal.proofs.Papers.{found_tells}
 
 -- dataset_raw::raw
 pub raw : One Rattle.dataset_raw.specs.contracts.raw.ended (λ M 𝓤. Rattle.dataset_raw.specs.contracts.raw.clauses)
@@ -36,43 +31,43 @@ network_name_value x r q left over = both x.𝓤 _ _ _ (λ e f. (e ∙ sym f, re
 
 -- dataset::channel
 pub channel : One Rattle.dataset.specs.contracts.channel.ended (λ M 𝓤. Rattle.dataset.specs.contracts.channel.clauses)
-channel x r q left over = both x.𝓤 _ _ _ (λ e f. (channel_tells r q (e ∙ sym f), refl))
+channel x r q left over = both x.𝓤 _ _ _ (λ e f. (found_tells r q (e ∙ sym f), refl))
 
 -- dataset::pan_id
 pub pan_id : One Rattle.dataset.specs.contracts.pan_id.ended (λ M 𝓤. Rattle.dataset.specs.contracts.pan_id.clauses)
-pan_id x r q left over = both x.𝓤 _ _ _ (λ e f. (read16_tells r q (e ∙ sym f), refl))
+pan_id x r q left over = both x.𝓤 _ _ _ (λ e f. (found_tells r q (e ∙ sym f), refl))
 
 -- dataset::delay_timer
 pub delay_timer : One Rattle.dataset.specs.contracts.delay_timer.ended (λ M 𝓤. Rattle.dataset.specs.contracts.delay_timer.clauses)
-delay_timer x r q left over = both x.𝓤 _ _ _ (λ e f. (read32_tells r q (e ∙ sym f), refl))
+delay_timer x r q left over = both x.𝓤 _ _ _ (λ e f. (found_tells r q (e ∙ sym f), refl))
 
 -- dataset::active_timestamp
 pub active_timestamp : One Rattle.dataset.specs.contracts.active_timestamp.ended (λ M 𝓤. Rattle.dataset.specs.contracts.active_timestamp.clauses)
-active_timestamp x r q left over = both x.𝓤 _ _ _ (λ e f. (timestamp_tells r q (e ∙ sym f), refl))
+active_timestamp x r q left over = both x.𝓤 _ _ _ (λ e f. (found_tells r q (e ∙ sym f), refl))
 
 -- dataset::pending_timestamp
 pub pending_timestamp : One Rattle.dataset.specs.contracts.pending_timestamp.ended (λ M 𝓤. Rattle.dataset.specs.contracts.pending_timestamp.clauses)
-pending_timestamp x r q left over = both x.𝓤 _ _ _ (λ e f. (timestamp_tells r q (e ∙ sym f), refl))
+pending_timestamp x r q left over = both x.𝓤 _ _ _ (λ e f. (found_tells r q (e ∙ sym f), refl))
 
 -- dataset::security_policy
 pub security_policy : One Rattle.dataset.specs.contracts.security_policy.ended (λ M 𝓤. Rattle.dataset.specs.contracts.security_policy.clauses)
-security_policy x r q left over = both x.𝓤 _ _ _ (λ e f. (policy_tells r q (e ∙ sym f), refl))
+security_policy x r q left over = both x.𝓤 _ _ _ (λ e f. (found_tells r q (e ∙ sym f), refl))
 
 -- dataset::extended_pan_id
 pub extended_pan_id : One Rattle.dataset.specs.contracts.extended_pan_id.ended (λ M 𝓤. Rattle.dataset.specs.contracts.extended_pan_id.clauses)
-extended_pan_id x r q left over = both x.𝓤 _ _ _ (λ e f. (copy8_tells r q (e ∙ sym f), refl))
+extended_pan_id x r q left over = both x.𝓤 _ _ _ (λ e f. (found_tells r q (e ∙ sym f), refl))
 
 -- dataset::mesh_local_prefix
 pub mesh_local_prefix : One Rattle.dataset.specs.contracts.mesh_local_prefix.ended (λ M 𝓤. Rattle.dataset.specs.contracts.mesh_local_prefix.clauses)
-mesh_local_prefix x r q left over = both x.𝓤 _ _ _ (λ e f. (copy8_tells r q (e ∙ sym f), refl))
+mesh_local_prefix x r q left over = both x.𝓤 _ _ _ (λ e f. (found_tells r q (e ∙ sym f), refl))
 
 -- dataset::network_key
 pub network_key : One Rattle.dataset.specs.contracts.network_key.ended (λ M 𝓤. Rattle.dataset.specs.contracts.network_key.clauses)
-network_key x r q left over = both x.𝓤 _ _ _ (λ e f. (copy16_tells r q (e ∙ sym f), refl))
+network_key x r q left over = both x.𝓤 _ _ _ (λ e f. (found_tells r q (e ∙ sym f), refl))
 
 -- dataset_parts::channel_mask
 pub channel_mask : One Rattle.dataset_parts.specs.contracts.channel_mask.ended (λ M 𝓤. Rattle.dataset_parts.specs.contracts.channel_mask.clauses)
-channel_mask x r q left over = both x.𝓤 _ _ _ (λ e f. (found_mask_tells r q (e ∙ sym f), refl))
+channel_mask x r q left over = both x.𝓤 _ _ _ (λ e f. (found_tells r q (e ∙ sym f), refl))
 
 -- dataset_parts::channel_mask_value
 pub channel_mask_value : OneBy Rattle.dataset_parts.specs.contracts.channel_mask_value.ended (λ κs r. r.now) (λ M 𝓤. Rattle.dataset_parts.specs.contracts.channel_mask_value.clauses)

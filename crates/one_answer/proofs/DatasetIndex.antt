@@ -1,21 +1,18 @@
 -- One possible answer for each public call of `dataset_index` and `index_edits`.
 -- Assumes nothing.
 use mathlib.Core.Path.{◌∙◌, refl, sym}
-use Rattle.refusal.proofs.Papers.{written_tells}
-use Rattle.refusal.specs.Output.{written_answer}
-use Rattle.tlv_last.proofs.Papers.{found_tells}
-use Rattle.dataset_index.proofs.Papers.{loaded_tells}
 use Rattle.index_edits.proofs.Papers.{outputs_tell}
 use Rattle.one_answer.proofs.General.{both, leaves}
 use Rattle.one_answer.specs.One.{One, OneBy}
+use Rattle.refusal.proofs.Papers.{answer_tells, found_tells}
 
 -- dataset_index::build
 pub build : One Rattle.dataset_index.specs.contracts.build.ended (λ M 𝓤. Rattle.dataset_index.specs.contracts.build.clauses)
-build x r q left over = both x.𝓤 _ _ _ (λ e f. let same = leaves written_answer written_tells _ r q _ _ e f in (same.0, λ i. (tt, (same.1 i, tt))))
+build x r q left over = both x.𝓤 _ _ _ (λ e f. let same = leaves _ r q _ _ e f in (same.0, λ i. (tt, (same.1 i, tt))))
 
 -- dataset_index::load
 pub load : One Rattle.dataset_index.specs.contracts.load.ended (λ M 𝓤. Rattle.dataset_index.specs.contracts.load.clauses)
-load x r q left over = both x.𝓤 _ _ _ (λ e f. (loaded_tells r q (e ∙ sym f), refl))
+load x r q left over = both x.𝓤 _ _ _ (λ e f. (answer_tells r q (e ∙ sym f), refl))
 
 -- dataset_index::last_entry
 pub last_entry : One Rattle.dataset_index.specs.contracts.last_entry.ended (λ M 𝓤. Rattle.dataset_index.specs.contracts.last_entry.clauses)

@@ -1,8 +1,6 @@
 -- One possible answer for each public call of `listing`.
 -- Assumes nothing.
 use mathlib.Core.Path.{◌∙◌, refl, sym}
-use Rattle.refusal.proofs.Papers.{written_tells}
-use Rattle.refusal.specs.Output.{written_answer}
 use Rattle.one_answer.proofs.General.{both, leaves, leaves_placed}
 use Rattle.one_answer.specs.One.{One}
 
@@ -12,11 +10,11 @@ put_line x r q left over = both x.𝓤 _ _ _ (λ e f. let same = leaves_placed _
 
 -- listing::list
 pub list : One Rattle.listing.specs.contracts.list.ended (λ M 𝓤. Rattle.listing.specs.contracts.list.clauses)
-list x r q left over = both x.𝓤 _ _ _ (λ e f. let same = leaves written_answer written_tells _ r q _ _ e f in (same.0, λ i. (tt, (same.1 i, tt))))
+list x r q left over = both x.𝓤 _ _ _ (λ e f. let same = leaves _ r q _ _ e f in (same.0, λ i. (tt, (same.1 i, tt))))
 
 -- listing::list_hex
 pub list_hex : One Rattle.listing.specs.contracts.list_hex.ended (λ M 𝓤. Rattle.listing.specs.contracts.list_hex.clauses)
-list_hex x r q left over = both x.𝓤 _ _ _ (λ e f. let same = leaves written_answer written_tells _ r q _ _ e f in (same.0, λ i. (tt, (same.1 i, tt))))
+list_hex x r q left over = both x.𝓤 _ _ _ (λ e f. let same = leaves _ r q _ _ e f in (same.0, λ i. (tt, (same.1 i, tt))))
 
 -- listing::line_end
 pub line_end : One Rattle.listing.specs.contracts.line_end.ended (λ M 𝓤. Rattle.listing.specs.contracts.line_end.clauses)
@@ -24,8 +22,8 @@ line_end x r q left over = both x.𝓤 _ _ _ (λ e f. (e ∙ sym f, refl))
 
 -- listing::tell
 pub tell : One Rattle.listing.specs.contracts.tell.ended (λ M 𝓤. Rattle.listing.specs.contracts.tell.clauses)
-tell x r q left over = both x.𝓤 _ _ _ (λ e f. let same = leaves written_answer written_tells _ r q _ _ e f in (same.0, λ i. (tt, (same.1 i, tt))))
+tell x r q left over = both x.𝓤 _ _ _ (λ e f. let same = leaves _ r q _ _ e f in (same.0, λ i. (tt, (same.1 i, tt))))
 
 -- listing::report_text
 pub report_text : One Rattle.listing.specs.contracts.report_text.ended (λ M 𝓤. Rattle.listing.specs.contracts.report_text.clauses)
-report_text x r q left over = both x.𝓤 _ _ _ (λ e f. let same = leaves written_answer written_tells _ r q _ _ e f in (same.0, λ i. (tt, (same.1 i, tt))))
+report_text x r q left over = both x.𝓤 _ _ _ (λ e f. let same = leaves _ r q _ _ e f in (same.0, λ i. (tt, (same.1 i, tt))))

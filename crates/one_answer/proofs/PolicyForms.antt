@@ -1,9 +1,7 @@
 -- One possible answer for each public call of `policy_forms`.
 -- Assumes nothing.
 use mathlib.Core.Path.{◌∙◌, refl, sym}
-use Rattle.refusal.proofs.Papers.{written_tells}
-use Rattle.refusal.specs.Output.{written_answer}
-use Rattle.policy_forms.proofs.Papers.{either_tells}
+use Rattle.policy_forms.proofs.Papers.{either_tells, found_either_tells}
 use Rattle.one_answer.proofs.General.{both, leaves}
 use Rattle.one_answer.specs.One.{One}
 
@@ -13,7 +11,7 @@ either_policy_parse x r q left over = both x.𝓤 _ _ _ (λ e f. (either_tells r
 
 -- policy_forms::EitherPolicy::write
 pub either_policy_write : One Rattle.policy_forms.specs.contracts.EitherPolicy.write.ended (λ M 𝓤. Rattle.policy_forms.specs.contracts.EitherPolicy.write.clauses)
-either_policy_write x r q left over = both x.𝓤 _ _ _ (λ e f. let same = leaves written_answer written_tells _ r q _ _ e f in (same.0, λ i. (tt, (same.1 i, tt))))
+either_policy_write x r q left over = both x.𝓤 _ _ _ (λ e f. let same = leaves _ r q _ _ e f in (same.0, λ i. (tt, (same.1 i, tt))))
 
 -- policy_forms::EitherPolicy::version_threshold_for_routing
 pub either_policy_version_threshold_for_routing : One Rattle.policy_forms.specs.contracts.EitherPolicy.version_threshold_for_routing.ended (λ M 𝓤. Rattle.policy_forms.specs.contracts.EitherPolicy.version_threshold_for_routing.clauses)
@@ -25,4 +23,4 @@ either_policy_set_version_threshold_for_routing x r q left over = both x.𝓤 _ 
 
 -- policy_forms::security_policy
 pub security_policy : One Rattle.policy_forms.specs.contracts.security_policy.ended (λ M 𝓤. Rattle.policy_forms.specs.contracts.security_policy.clauses)
-security_policy x r q left over = both x.𝓤 _ _ _ (λ e f. (either_tells r q (e ∙ sym f), refl))
+security_policy x r q left over = both x.𝓤 _ _ _ (λ e f. (found_either_tells r q (e ∙ sym f), refl))

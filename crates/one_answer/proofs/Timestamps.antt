@@ -1,9 +1,9 @@
 -- One possible answer for each public call of `timestamps`.
 -- Assumes nothing.
 use mathlib.Core.Path.{◌∙◌, refl, sym}
-use Rattle.timestamps.proofs.Papers.{timestamp_tells}
 use Rattle.one_answer.proofs.General.{both, stamp_tells}
 use Rattle.one_answer.specs.One.{One}
+use Rattle.refusal.proofs.Papers.{answer_tells}
 
 -- timestamps::Timestamp::from_raw
 pub timestamp_from_raw : One Rattle.timestamps.specs.contracts.Timestamp.from_raw.ended (λ M 𝓤. Rattle.timestamps.specs.contracts.Timestamp.from_raw.clauses)
@@ -15,7 +15,7 @@ timestamp_from_components x r q left over = both x.𝓤 _ _ _ (λ e f. (stamp_te
 
 -- timestamps::Timestamp::parse
 pub timestamp_parse : One Rattle.timestamps.specs.contracts.Timestamp.parse.ended (λ M 𝓤. Rattle.timestamps.specs.contracts.Timestamp.parse.clauses)
-timestamp_parse x r q left over = both x.𝓤 _ _ _ (λ e f. (timestamp_tells r q (e ∙ sym f), refl))
+timestamp_parse x r q left over = both x.𝓤 _ _ _ (λ e f. (answer_tells r q (e ∙ sym f), refl))
 
 -- timestamps::Timestamp::raw
 pub timestamp_raw : One Rattle.timestamps.specs.contracts.Timestamp.raw.ended (λ M 𝓤. Rattle.timestamps.specs.contracts.Timestamp.raw.clauses)

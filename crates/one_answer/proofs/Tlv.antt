@@ -1,10 +1,10 @@
 -- One possible answer for each public call of `tlv` and `tlv_last`.
 -- Assumes nothing.
 use mathlib.Core.Path.{◌∙◌, refl, sym}
-use Rattle.tlv.proofs.Papers.{counted_tells, parsed_tells}
-use Rattle.tlv_last.proofs.Papers.{found_tells}
 use Rattle.one_answer.proofs.General.{both}
 use Rattle.one_answer.specs.One.{One, OneBy}
+use Rattle.refusal.proofs.Papers.{answer_tells, found_tells}
+use Rattle.tlv.specs.Walk.{left}
 
 -- tlv::frame_at
 pub frame_at : One Rattle.tlv.specs.contracts.frame_at.ended (λ M 𝓤. Rattle.tlv.specs.contracts.frame_at.clauses)
@@ -12,15 +12,23 @@ frame_at x r q left over = both x.𝓤 _ _ _ (λ e f. (e ∙ sym f, refl))
 
 -- tlv::parse_one
 pub parse_one : One Rattle.tlv.specs.contracts.parse_one.ended (λ M 𝓤. Rattle.tlv.specs.contracts.parse_one.clauses)
-parse_one x r q left over = both x.𝓤 _ _ _ (λ e f. (parsed_tells r q (e ∙ sym f), refl))
+parse_one x r q left over = both x.𝓤 _ _ _ (λ e f. (answer_tells r q (e ∙ sym f), refl))
 
 -- tlv::count_entries
 pub count_entries : One Rattle.tlv.specs.contracts.count_entries.ended (λ M 𝓤. Rattle.tlv.specs.contracts.count_entries.clauses)
-count_entries x r q left over = both x.𝓤 _ _ _ (λ e f. (counted_tells r q (e ∙ sym f), refl))
+count_entries x r q left over = both x.𝓤 _ _ _ (λ e f. (answer_tells r q (e ∙ sym f), refl))
 
 -- tlv::stopped
 pub stopped : One Rattle.tlv.specs.contracts.stopped.ended (λ M 𝓤. Rattle.tlv.specs.contracts.stopped.clauses)
-stopped x r q left over = both x.𝓤 _ _ _ (λ e f. (counted_tells r q (e ∙ sym f), refl))
+stopped x r q left over = both x.𝓤 _ _ _ (λ e f. (answer_tells r q (e ∙ sym f), refl))
+
+-- tlv::entries
+pub entries : OneBy Rattle.tlv.specs.contracts.entries.ended (λ κs r. left r) (λ M 𝓤. Rattle.tlv.specs.contracts.entries.clauses)
+entries x r q left over = both x.𝓤 _ _ _ (λ e f. (e ∙ sym f, refl))
+
+-- tlv::entries_from
+pub entries_from : OneBy Rattle.tlv.specs.contracts.entries_from.ended (λ κs r. left r) (λ M 𝓤. Rattle.tlv.specs.contracts.entries_from.clauses)
+entries_from x r q left over = both x.𝓤 _ _ _ (λ e f. (e ∙ sym f, refl))
 
 -- tlv_last::last_entry
 pub last_entry : One Rattle.tlv_last.specs.contracts.last_entry.ended (λ M 𝓤. Rattle.tlv_last.specs.contracts.last_entry.clauses)

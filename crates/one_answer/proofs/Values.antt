@@ -1,13 +1,13 @@
 -- One possible answer for each public call of `policy_flags` and `values`.
 -- Assumes nothing.
 use mathlib.Core.Path.{◌∙◌, refl, sym}
-use Rattle.values.proofs.Papers.{channel_tells, policy_tells}
 use Rattle.one_answer.proofs.General.{both, flags_tells}
 use Rattle.one_answer.specs.One.{One}
+use Rattle.refusal.proofs.Papers.{answer_tells}
 
 -- values::Channel::parse
 pub channel_parse : One Rattle.values.specs.contracts.Channel.parse.ended (λ M 𝓤. Rattle.values.specs.contracts.Channel.parse.clauses)
-channel_parse x r q left over = both x.𝓤 _ _ _ (λ e f. (channel_tells r q (e ∙ sym f), refl))
+channel_parse x r q left over = both x.𝓤 _ _ _ (λ e f. (answer_tells r q (e ∙ sym f), refl))
 
 -- values::Channel::to_value
 pub channel_to_value : One Rattle.values.specs.contracts.Channel.to_value.ended (λ M 𝓤. Rattle.values.specs.contracts.Channel.to_value.clauses)
@@ -35,7 +35,7 @@ security_policy_flags_set_version_threshold_for_routing x r q left over = both x
 
 -- values::SecurityPolicy::parse
 pub security_policy_parse : One Rattle.values.specs.contracts.SecurityPolicy.parse.ended (λ M 𝓤. Rattle.values.specs.contracts.SecurityPolicy.parse.clauses)
-security_policy_parse x r q left over = both x.𝓤 _ _ _ (λ e f. (policy_tells r q (e ∙ sym f), refl))
+security_policy_parse x r q left over = both x.𝓤 _ _ _ (λ e f. (answer_tells r q (e ∙ sym f), refl))
 
 -- values::SecurityPolicy::to_value
 pub security_policy_to_value : One Rattle.values.specs.contracts.SecurityPolicy.to_value.ended (λ M 𝓤. Rattle.values.specs.contracts.SecurityPolicy.to_value.clauses)

@@ -1,9 +1,9 @@
 -- One possible answer for each public call of `wire`, `wire_bytes` and `copying`.
 -- Assumes nothing.
 use mathlib.Core.Path.{◌∙◌, refl, sym}
-use Rattle.wire.proofs.Papers.{read16_tells, read32_tells, read64_tells}
 use Rattle.one_answer.proofs.General.{both, leaves_placed, refusal_tells}
 use Rattle.one_answer.specs.One.{One}
+use Rattle.refusal.proofs.Papers.{answer_tells}
 
 -- wire::misfit
 pub misfit : One Rattle.wire.specs.contracts.misfit.ended (λ M 𝓤. Rattle.wire.specs.contracts.misfit.clauses)
@@ -11,15 +11,15 @@ misfit x r q left over = both x.𝓤 _ _ _ (λ e f. (refusal_tells r q (e ∙ sy
 
 -- wire::read_u16
 pub read_u16 : One Rattle.wire.specs.contracts.read_u16.ended (λ M 𝓤. Rattle.wire.specs.contracts.read_u16.clauses)
-read_u16 x r q left over = both x.𝓤 _ _ _ (λ e f. (read16_tells r q (e ∙ sym f), refl))
+read_u16 x r q left over = both x.𝓤 _ _ _ (λ e f. (answer_tells r q (e ∙ sym f), refl))
 
 -- wire::read_u32
 pub read_u32 : One Rattle.wire.specs.contracts.read_u32.ended (λ M 𝓤. Rattle.wire.specs.contracts.read_u32.clauses)
-read_u32 x r q left over = both x.𝓤 _ _ _ (λ e f. (read32_tells r q (e ∙ sym f), refl))
+read_u32 x r q left over = both x.𝓤 _ _ _ (λ e f. (answer_tells r q (e ∙ sym f), refl))
 
 -- wire::read_u64
 pub read_u64 : One Rattle.wire.specs.contracts.read_u64.ended (λ M 𝓤. Rattle.wire.specs.contracts.read_u64.clauses)
-read_u64 x r q left over = both x.𝓤 _ _ _ (λ e f. (read64_tells r q (e ∙ sym f), refl))
+read_u64 x r q left over = both x.𝓤 _ _ _ (λ e f. (answer_tells r q (e ∙ sym f), refl))
 
 -- wire_bytes::u16_bytes
 pub u16_bytes : One Rattle.wire_bytes.specs.contracts.u16_bytes.ended (λ M 𝓤. Rattle.wire_bytes.specs.contracts.u16_bytes.clauses)

@@ -13,10 +13,13 @@ use borrow.Author.Tests.{eq-eqb, ne_eqb, ltb-true, ltb-false}
 use Rattle.refusal.specs.Sizes.{most_bytes}
 use Rattle.refusal.specs.Answer.{Answer, given, absent, refused, then_do, on_given}
 use Rattle.refusal.specs.Output.{put}
+use Rattle.refusal.specs.Results.{answer_of, option_of}
+use Rattle.refusal.specs.declared.Refusal.{Refusal}
+use Rattle.std.specs.Prelude.{Result, Ok, Err}
+use Rattle.std.specs.Result.{result_ok}
 use Rattle.laws.proofs.Tests.{by_test}
 use Rattle.laws.proofs.Puts.{put_byte}
-use Rattle.tlv.specs.Entries.{Entry, Framing, framing}
-use Rattle.tlv.proofs.Walks.{from, from_start}
+use Rattle.tlv.specs.Entries.{Entry}
 use Rattle.wire.specs.Be.{be, wrong_length, ruled, fixed}
 use Rattle.diag_rules.specs.Rule.{value_of}
 use Rattle.refusal.specs.Numbered.{nth}
@@ -59,21 +62,21 @@ pub list_rloc_by : (v : List ℕ) (a : Answer ChildIpv6AddrInfo) → a ≡ on_gi
 unfolding list_rloc_of
 list_rloc_by v a e = ap (λ (x : Answer ChildIpv6AddrInfo). or_zero (on_given list_rloc x)) e
 
--- what `read_u16` answered: a number, or something else
-module _ (v : List ℕ) where
-  pub own_by : (x : ℕ) → given x ≡ fixed 2 0 v → given x ≡ own_in v
-  unfolding own_in fixed ruled wrong_length
-  own_by x =
-      by_test (eqb (length v) 2)
-      (λ t. rw t (λ e. e))
-      (λ t. rw t (by_test (ltb most_bytes (length v)) (λ b. rw b never) (λ b. rw b never)))
-    where
-      never : {G : Type 0} {n p i : ℕ} → given x ≡ refused n p i → G
-      never e = absurd (let z : ◌≡◌ {A = ℕ} 0 1 = cc in omega arith)
+-- what `read_u16` answered: a number, or a refusal
+pub own_by : (v : List ℕ) (r : Result ℕ Refusal) → answer_of r ≡ fixed 2 0 v → option_of (result_ok r) ≡ own_in v
+unfolding own_in fixed ruled wrong_length
+own_by v r =
+    by_test (eqb (length v) 2)
+    (λ t. rw t (read r))
+    (λ t. rw t (by_test (ltb most_bytes (length v)) (λ b. rw b (kept r 1 0 0)) (λ b. rw b (kept r 4 0 0))))
+  where
+    read : (r : Result ℕ Refusal) → answer_of r ≡ given (be v) → option_of (result_ok r) ≡ given (be v)
+    read (Ok x) e = e
+    read (Err q) e = absurd (let z : ◌≡◌ {A = ℕ} 0 1 = cc in omega arith)
 
-  pub own_absent : (a : Answer ℕ) → (a ≡ given (be v) → ⊥) → a ≡ fixed 2 0 v → absent ≡ own_in v
-  unfolding own_in fixed ruled
-  own_absent a other = by_test (eqb (length v) 2) (λ t. rw t (λ e. absurd (other e))) (λ t. rw t (λ e. refl))
+    kept : (r : Result ℕ Refusal) (n p i : ℕ) → answer_of r ≡ refused n p i → option_of (result_ok r) ≡ absent
+    kept (Ok x) n p i e = absurd (let z : ◌≡◌ {A = ℕ} 0 1 = cc in omega arith)
+    kept (Err q) n p i e = refl
 
 -- ---- the rows
 module _ (v : List ℕ) where
@@ -113,9 +116,6 @@ codes_turn own rows count place v out k id x h e made =
     ∙ ap (put out k) (sym (codes_drop own rows count place v k)))
 
 -- ---- the lists
-pub lists_start : (s : List ℕ) → lists_of (framing s).entries ≡ lists_of (from s 0).entries
-lists_start s = ap (λ (w : Framing). lists_of w.entries) (sym (from_start s))
-
 module _ (l : List Entry) (e : Entry) (es : List Entry) (is : l ≡ e ∷ es) where
   pub lists_hit : e.ty ≡ 30 → (x : ℕ) → x ≡ list_rloc_of e.value → lists_of l ≡ x ∷ lists_of es
   unfolding lists_of all_of

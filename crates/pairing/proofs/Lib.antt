@@ -4,4 +4,3 @@ pub mod Ids
 pub mod Payloads
 pub mod Meaning
 pub mod Codes
-pub mod Papers

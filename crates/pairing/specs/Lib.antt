@@ -1,3 +1,2 @@
 pub mod Payload
-pub mod Answers
 pub mod Loops

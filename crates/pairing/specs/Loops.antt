@@ -14,8 +14,6 @@ use Rattle.pair_rule.specs.Pairing.{occurs, child_of, counts, judged}
 use Rattle.pair_rule.specs.Codes.{code_of}
 use Rattle.pair_rule.specs.declared.Pairing.{Pairing}
 use Rattle.pair_rule.specs.declared.Pairing.TheVariants as p
-use Rattle.pairing.specs.declared.OwnMac.{OwnMac}
-use Rattle.pairing.specs.declared.OwnMac.TheVariants as o
 
 -- ---- child IDs and RLOC16s, 0 where a value is refused: that does not occur in a payload that was checked
 
@@ -37,10 +35,6 @@ unfoldable pub lists_of : List Entry → List ℕ
 lists_of es = map (λ (e : Entry). list_rloc_of e.value) (all_of 30 es)
 
 -- ---- the payload's own MAC Address, by the value of its last type 1: absent where that has not two bytes
-
-abbrev pub own_answer : OwnMac → Answer ℕ
-own_answer (o.Value mac) = given mac
-own_answer o.Absent = absent
 
 unfoldable pub own_in : (value : List ℕ) → Answer ℕ
 own_in v = pick (eqb (length v) 2) (given (be v)) absent

@@ -6,12 +6,17 @@ use Prim.Native.Nat.{ℕ, zero, suc, ◌+◌, ◌-◌, ◌^◌, ◌≤◌, ◌<�
 use native.Mathlib.Omega.{arith}
 use lib.ListN.{length, get_or, drop, replicate}
 use lib.Seq.{get_or-append-add}
+use Rattle.std.specs.Prelude.{Result, Ok, Err}
+use Rattle.std.specs.Result.{ResultUnwrapsOrElse}
+use Rattle.refusal.specs.Results.{answer_of}
+use Rattle.refusal.specs.declared.Refusal.{Refusal}
 use Rattle.refusal.specs.Answer.{Answer, given, absent, refused, on_given}
 use Rattle.diag_rules.specs.Mask.{routers_of}
 use Rattle.diag_rules.specs.Rule.{value_of}
 use Rattle.diag_rules.proofs.Mask.{few}
+use Rattle.route64.specs.declared.Route64.{Route64}
 use Rattle.route64.specs.declared.RouteDataEntry.{RouteDataEntry}
-use Rattle.route64.specs.Routes.{route_row, rows_of, route_rows, route_of, table, routes, zero_routes, RouteRead, laid_out}
+use Rattle.route64.specs.Routes.{route_row, rows_of, route_rows, route_of, table, routes, zero_routes, laid_out}
 use Rattle.route64.proofs.Routing.{rows_few}
 use Rattle.value_sums.specs.Sums.{plus}
 use Rattle.payload_sums.specs.Rows.{summed, route_sum, routes_sum, Counted}
@@ -51,7 +56,22 @@ table_sum xs h =
     let z : 64 - length xs + length xs ≡ 64 = omega arith in
     sym (none_more _ (length xs) (64 - length xs) (λ k l. ap route_sum (past_rows xs (64 - length xs) k l) ∙ zero_sum)) ∙ ap (summed _) z
 
-laid_counted : (a : Answer (List ℕ)) → Counted (laid_out (on_given route_of a)).route.route_data (laid_out (on_given route_of a)).route.count
+-- a Route64 that is read, and zeros where it is refused
+read_by : (a : Answer (List ℕ)) (r : Result Route64 Refusal) → answer_of r ≡ on_given routes (on_given route_of a) → (x : Route64)
+    → ResultUnwrapsOrElse r (λ z. z ≡ zero_routes) x → x ≡ laid_out (on_given route_of a)
+unfolding laid_out
+read_by (given v) (Ok y) e x h = h ∙ (let z : y ≡ routes (route_of v) = cc in z)
+read_by (given v) (Err q) e x h = absurd (let z : ◌≡◌ {A = ℕ} 0 1 = cc in omega arith)
+read_by absent (Ok y) e x h = absurd (let z : ◌≡◌ {A = ℕ} 0 1 = cc in omega arith)
+read_by absent (Err q) e x h = absurd (let z : ◌≡◌ {A = ℕ} 0 1 = cc in omega arith)
+read_by (refused n p i) (Ok y) e x h = absurd (let z : ◌≡◌ {A = ℕ} 0 1 = cc in omega arith)
+read_by (refused n p i) (Err q) e x h = h
+
+pub route_read : (v : List ℕ) (r : Result Route64 Refusal) → answer_of r ≡ on_given routes (on_given route_of (value_of 5 0 v)) → (x : Route64)
+    → ResultUnwrapsOrElse r (λ z. z ≡ zero_routes) x → x ≡ laid_out (on_given route_of (value_of 5 0 v))
+route_read v = read_by (value_of 5 0 v)
+
+laid_counted : (a : Answer (List ℕ)) → Counted (laid_out (on_given route_of a)).route_data (laid_out (on_given route_of a)).count
 unfolding laid_out routes zero_routes route_rows
 laid_counted (given v) =
     let low : length (rows_of (routers_of v) (drop 9 v)) ≤ 64 = omega (arith, rows_few (routers_of v) (drop 9 v), few v) in
@@ -59,5 +79,5 @@ laid_counted (given v) =
 laid_counted absent = (omega arith, table_sum [] (omega arith))
 laid_counted (refused n p i) = (omega arith, table_sum [] (omega arith))
 
-pub read_counted : (v : List ℕ) (x : RouteRead) → x ≡ laid_out (on_given route_of (value_of 5 0 v)) → Counted x.route.route_data x.route.count
-read_counted v x e = subst (λ (y : RouteRead). Counted y.route.route_data y.route.count) (sym e) (laid_counted (value_of 5 0 v))
+pub read_counted : (v : List ℕ) (x : Route64) → x ≡ laid_out (on_given route_of (value_of 5 0 v)) → Counted x.route_data x.count
+read_counted v x e = subst (λ (y : Route64). Counted y.route_data y.count) (sym e) (laid_counted (value_of 5 0 v))

@@ -1,24 +1,27 @@
 -- Sums over rows and address lists, a turn at a time.
 -- Assumes nothing.
-use mathlib.Core.Path.{◌≡◌, refl, sym, ap, ◌∙◌, subst}
+use mathlib.Core.Path.{◌≡◌, refl, sym, ap, ◌∙◌}
 use mathlib.Core.List.{List, [], ◌∷◌}
+use denote.Bor.{Bor}
 use Prim.Native.Nat.{ℕ, zero, suc, ◌+◌, ◌≤◌}
 use native.Mathlib.Omega.{arith}
 use lib.ListN.{length, get_or}
+use Rattle.std.specs.Prelude.{Option, Some, None, MatchOption}
 use Rattle.refusal.specs.Answer.{Answer, given, absent, refused, on_given}
-use Rattle.tlv.specs.Entries.{Entry, entry, framing}
+use Rattle.refusal.specs.Results.{option_of}
+use Rattle.tlv.specs.Entries.{Entry, framing}
 use Rattle.route64.specs.Routes.{route_of}
-use Rattle.diag_rows.specs.Rows.{Part, child_rows, addresses, address_list_of}
+use Rattle.diag_rows.specs.Rows.{child_rows, addresses, address_list_of}
+use Rattle.diag_rows.specs.declared.Part.{Part}
 use Rattle.diag_rules.specs.Rule.{value_of}
 use Rattle.diag_rules.specs.Answers.{judged}
 use Rattle.diag_rows.specs.declared.ChildIpv6AddrInfo.{ChildIpv6AddrInfo}
 use Rattle.diag_rules.proofs.Kept.{kept, list_size}
-use Rattle.diag_entries.specs.Parts.{Said, last_part}
+use Rattle.diag_entries.specs.Parts.{Said, all_of, last_part}
+use Rattle.diag_entries.proofs.Lasts.{all_hit, all_miss, all_none}
 use Rattle.diag.specs.Diag.{Diag, diag, decode}
 use Rattle.diag_entries.specs.Answers.{bytes_at, said_at}
-use Rattle.diag.specs.Answers.{opt_part, diag_of}
-use Rattle.diag.specs.declared.OptPart.{OptPart}
-use Rattle.diag.specs.declared.OptPart.TheVariants as p
+use Rattle.diag.specs.Answers.{diag_of}
 use Rattle.diag.specs.declared.NetDiagData.{NetDiagData}
 use Rattle.diag.proofs.Callers.{decoded_given, part_there}
 use Rattle.payload_sums.specs.Sums.{or_zero}
@@ -38,11 +41,15 @@ pub summed_done : (f : ℕ → ℕ) (n k rows : ℕ) → n ≡ summed f k → k 
 summed_done f n k rows inv e = inv ∙ ap (summed f) e
 
 -- ---- a loop over the lists of a payload
-pub lists_more : (l es : List Entry) (p a : ℕ) (v : List ℕ) (n m x : ℕ) → l ≡ entry p 30 a v ∷ es → m ≡ plus n (list_of v) → lists_onto n l ≡ x → lists_onto m es ≡ x
-lists_more l es p a v n m x is e inv = ap (λ (k : ℕ). lists_onto k es) e ∙ ap (lists_onto n) (sym is) ∙ inv
+module _ (l es : List Entry) (e : Entry) (is : l ≡ e ∷ es) (n x : ℕ) (inv : lists_onto n (all_of 30 l) ≡ x) where
+  pub lists_more : e.ty ≡ 30 → (m : ℕ) → m ≡ plus n (list_of e.value) → lists_onto m (all_of 30 es) ≡ x
+  lists_more h m k = ap (λ (i : ℕ). lists_onto i (all_of 30 es)) k ∙ ap (lists_onto n) (sym (ap (all_of 30) is ∙ all_hit 30 e es h)) ∙ inv
 
-pub lists_done : (l : List Entry) (n x : ℕ) → l ≡ [] → lists_onto n l ≡ x → n ≡ x
-lists_done l n x none inv = ap (lists_onto n) (sym none) ∙ inv
+  pub lists_other : (e.ty ≡ 30 → ⊥) → lists_onto n (all_of 30 es) ≡ x
+  lists_other h = ap (lists_onto n) (sym (ap (all_of 30) is ∙ all_miss 30 e es h)) ∙ inv
+
+pub lists_done : (l : List Entry) (n x : ℕ) → l ≡ [] → lists_onto n (all_of 30 l) ≡ x → n ≡ x
+lists_done l n x none inv = ap (lists_onto n) (sym (ap (all_of 30) none ∙ all_none 30)) ∙ inv
 
 -- ---- the addresses of a list lie within its value
 module _ (v : List ℕ) (x : ChildIpv6AddrInfo) where
@@ -68,24 +75,27 @@ past (x ∷ l) zero h = absurd (omega arith)
 past (x ∷ l) (suc k) h = past l k (omega arith)
 
 -- ---- the parts of a record lie within the payload
-pub held : (s : List ℕ) (x : OptPart) (a n : ℕ) → x ≡ p.Some a n → Inside s (opt_part x) → a + n ≤ length s
-held s x a n e i = subst (λ (y : OptPart). Inside s (opt_part y)) e i
+-- what f, which says g of every value, makes of one that is a part
+pub part_by : (g : List ℕ → ℕ) (s : List ℕ) (post : Bor (List ℕ) → ℕ → Type 0) → ((v : Bor (List ℕ)) (r : ℕ) → post v r → r ≡ g v.now) → (x : Option Part) (r : ℕ)
+    → MatchOption x (r ≡ 0) (λ (p : Part). (v : Bor (List ℕ)) × post v r × (v.now ≡ bytes_at s p.start p.len)) → r ≡ or_zero (in_part g s) (option_of x)
+part_by g s post each (Some p) r h = each h.0 r h.1 ∙ ap g h.2
+part_by g s post each None r h = h
 
-inside_by : {A : Type 0} (f : List ℕ → A) (s : List ℕ) (ty : ℕ) (x y : OptPart) → x ≡ y
-    → on_given (said_at f s) (opt_part x) ≡ last_part ty f (framing s).entries → Inside s (opt_part y)
-inside_by f s ty x (p.Some a n) e is = (part_there f s ty x is a n e).0
-inside_by f s ty x p.None e is = tt
+inside_by : {A : Type 0} (f : List ℕ → A) (s : List ℕ) (ty : ℕ) (x y : Option Part) → x ≡ y
+    → on_given (said_at f s) (option_of x) ≡ last_part ty f (framing s).entries → Inside s (option_of y)
+inside_by f s ty x (Some p) e is = (part_there f s ty x is p.start p.len e).0
+inside_by f s ty x None e is = tt
 
 module _ (s : List ℕ) (d : NetDiagData) (told : given (diag_of s d) ≡ decode s) where
-  pub routes_inside : Inside s (opt_part d.route64)
+  pub routes_inside : Inside s (option_of d.route64)
   unfolding diag_of diag
   routes_inside = inside_by route_of s 5 d.route64 d.route64 refl (ap (λ (x : Diag). x.route64) (decoded_given s d told).2)
 
-  pub children_inside : Inside s (opt_part d.child_table)
+  pub children_inside : Inside s (option_of d.child_table)
   unfolding diag_of diag
   children_inside = inside_by child_rows s 16 d.child_table d.child_table refl (ap (λ (x : Diag). x.child_table) (decoded_given s d told).2)
 
-  pub addresses_inside : Inside s (opt_part d.addresses)
+  pub addresses_inside : Inside s (option_of d.addresses)
   unfolding diag_of diag
   addresses_inside = inside_by addresses s 8 d.addresses d.addresses refl (ap (λ (x : Diag). x.addresses) (decoded_given s d told).2)
 

@@ -5,7 +5,8 @@ use Rattle.refusal.specs.Answer.{Answer, given, absent, refused, then_do, on_giv
 use Rattle.tlv.specs.Entries.{Entry, framing}
 use Rattle.route64.specs.Routes.{route_row, route_of, laid_out}
 use Rattle.refusal.specs.Numbered.{nth}
-use Rattle.diag_rows.specs.Rows.{Part, child_rows, addresses, or_empty, address_list_of}
+use Rattle.diag_rows.specs.Rows.{child_rows, addresses, or_empty, address_list_of}
+use Rattle.diag_rows.specs.declared.Part.{Part}
 use Rattle.diag_rules.specs.Rule.{value_of}
 use Rattle.route64.specs.declared.RouteDataEntry.{RouteDataEntry}
 use Rattle.route64.specs.declared.Route64.{Route64}
@@ -40,7 +41,7 @@ unfoldable pub route64_sum : Route64 → ℕ
 route64_sum r = onto 0 (r.id_sequence ∷ mask_sum r.mask ∷ routes_sum r.route_data ∷ [])
 
 abbrev pub routes : List ℕ → ℕ
-routes v = route64_sum (laid_out (on_given route_of (value_of 5 0 v))).route
+routes v = route64_sum (laid_out (on_given route_of (value_of 5 0 v)))
 
 unfoldable pub child_sum : ChildTableEntry → ℕ
 child_sum c = onto 0 (c.timeout_exponent ∷ c.incoming_link_quality ∷ c.child_id ∷ mode_sum c.mode ∷ [])

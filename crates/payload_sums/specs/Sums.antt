@@ -5,7 +5,7 @@ use Rattle.std.specs.Int.{w8}
 use Rattle.std.proofs.Common.{of_z}
 use Rattle.refusal.specs.Answer.{pick, Answer, given, absent, refused}
 use Rattle.connectivity.specs.Connectivity.{ConnectivityValue}
-use Rattle.diag_rows.specs.Rows.{Part}
+use Rattle.diag_rows.specs.declared.Part.{Part}
 use Rattle.diag_values.specs.declared.LeaderData.{LeaderData}
 use Rattle.diag_values.specs.declared.MacCounters.{MacCounters}
 use Rattle.diag_entries.specs.Parts.{Said}

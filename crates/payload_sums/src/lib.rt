@@ -6,26 +6,18 @@ mod sums;
 
 ghost use Rattle.std.specs.Prelude.{◌≡◌};
 ghost use Rattle.refusal.specs.Answer.{on_given};
+ghost use Rattle.refusal.specs.Results.{answer_of};
 ghost use Rattle.diag.specs.Diag.{decode};
 ghost use Rattle.payload_sums.specs.Rows.{payload_sum};
-ghost use Rattle.payload_sums.specs.Answers.{summed_answer};
 
-use diag::{Decoded, NetDiagData};
+use diag::NetDiagData;
 use refusal::Refusal;
 use rows::payload_sum;
 
-#[derive(Clone, Copy)]
-pub enum Summed {
-    Sum(u64),
-    Refused(Refusal),
-}
-
 // The sum of a payload. Refusals: those of its decode.
-pub fn sum_payload(payload: &[u8]) -> Summed
-    ensures { summed_answer result ≡ on_given (payload_sum payload.now) (decode payload.now) }
+pub fn sum_payload(payload: &[u8]) -> Result<u64, Refusal>
+    ensures { answer_of result ≡ on_given (payload_sum payload.now) (decode payload.now) }
 {
-    match NetDiagData::decode(payload) {
-        Decoded::Data(d) => Summed::Sum(payload_sum(payload, d)),
-        Decoded::Refused(r) => Summed::Refused(r),
-    }
+    let d = NetDiagData::decode(payload)?;
+    Ok(payload_sum(payload, d))
 }

@@ -1,61 +1,31 @@
 // The fields of a diagnostic record as one number, so that none of them is read in vain.
-ghost use Rattle.std.specs.Prelude.{◌≡◌};
-ghost use Rattle.diag_values.specs.Answers.{opt_answer8, opt_answer16};
+ghost use Rattle.std.specs.Prelude.{◌≡◌, MatchOption};
 ghost use Rattle.connectivity.specs.Answers.{connectivity_paper};
-ghost use Rattle.diag.specs.Answers.{opt_answer32, opt_mode, opt_connectivity, opt_leader_data, opt_mac_counters, opt_part, opt_network_data, diag_of};
-ghost use Rattle.value_sums.specs.Sums.{mode_sum};
-ghost use Rattle.payload_sums.specs.Sums.{or_zero, number, rank, connectivity_sum, leader_sum, counters_sum, network_sum, part_len, values_sum, parts_sum};
+ghost use Rattle.diag.specs.Answers.{diag_of};
+ghost use Rattle.value_sums.specs.Sums.{counts_sum};
+ghost use Rattle.payload_sums.specs.Sums.{rank, connectivity_sum, leader_sum, counters_sum, values_sum, parts_sum};
 
 use connectivity::Connectivity;
-use diag::{
-    NetDiagData, OptConnectivity, OptLeaderData, OptMacCounters, OptMode, OptNetworkData, OptPart,
-    OptU32,
-};
-use diag_values::{LeaderData, MacCounters, OptU8, OptU16};
+use diag::{NetDiagData, NetworkDataPart};
+use diag_rows::Part;
+use diag_values::{LeaderData, MacCounters};
 use value_sums::{counts_sum, mode_sum, plus};
 
-// A field that may be missing.
-fn of_u8(x: OptU8) -> u64
-    ensures { result ≡ number (opt_answer8 x) }
+// What f makes of a field that may be missing.
+fn or_zero<T, F: FnOnce(T) -> u64>(x: Option<T>, f: F) -> u64
+    requires { F.IsAlwaysCallable f }
+    ensures { MatchOption x (result ≡ 0) (λ v. F.post f v result) }
 {
     match x {
-        OptU8::Some(n) => n as u64,
-        OptU8::None => 0,
-    }
-}
-
-fn of_u16(x: OptU16) -> u64
-    ensures { result ≡ number (opt_answer16 x) }
-{
-    match x {
-        OptU16::Some(n) => n as u64,
-        OptU16::None => 0,
-    }
-}
-
-fn of_u32(x: OptU32) -> u64
-    ensures { result ≡ number (opt_answer32 x) }
-{
-    match x {
-        OptU32::Some(n) => n as u64,
-        OptU32::None => 0,
-    }
-}
-
-fn of_mode(x: OptMode) -> u64
-    ensures { result ≡ or_zero mode_sum (opt_mode x) }
-{
-    match x {
-        OptMode::Some(m) => mode_sum(m),
-        OptMode::None => 0,
+        Some(v) => f(v),
+        None => 0,
     }
 }
 
 fn rank(c: Connectivity) -> u64
     ensures { result ≡ rank c.parent_priority }
 {
-    let priority = c.parent_priority;
-    match priority {
+    match c.parent_priority {
         1 => 1,
         0 => 2,
         -1 => 3,
@@ -66,8 +36,6 @@ fn rank(c: Connectivity) -> u64
 fn connectivity_sum(c: Connectivity) -> u64
     ensures { result ≡ connectivity_sum (connectivity_paper c) }
 {
-    let size = c.rx_off_child_buffer_size;
-    let count = c.rx_off_child_datagram_count;
     let mut n = plus(0, rank(c));
     n = plus(n, c.link_quality_3 as u64);
     n = plus(n, c.link_quality_2 as u64);
@@ -75,17 +43,8 @@ fn connectivity_sum(c: Connectivity) -> u64
     n = plus(n, c.leader_cost as u64);
     n = plus(n, c.id_sequence as u64);
     n = plus(n, c.active_routers as u64);
-    n = plus(n, of_u16(size));
-    plus(n, of_u8(count))
-}
-
-fn of_connectivity(x: OptConnectivity) -> u64
-    ensures { result ≡ or_zero connectivity_sum (opt_connectivity x) }
-{
-    match x {
-        OptConnectivity::Some(c) => connectivity_sum(c),
-        OptConnectivity::None => 0,
-    }
+    n = plus(n, u64::from(c.rx_off_child_buffer_size.unwrap_or(0)));
+    plus(n, u64::from(c.rx_off_child_datagram_count.unwrap_or(0)))
 }
 
 fn leader_sum(l: LeaderData) -> u64
@@ -96,15 +55,6 @@ fn leader_sum(l: LeaderData) -> u64
     n = plus(n, l.data_version as u64);
     n = plus(n, l.stable_data_version as u64);
     plus(n, l.router_id as u64)
-}
-
-fn of_leader_data(x: OptLeaderData) -> u64
-    ensures { result ≡ or_zero leader_sum (opt_leader_data x) }
-{
-    match x {
-        OptLeaderData::Some(l) => leader_sum(l),
-        OptLeaderData::None => 0,
-    }
 }
 
 fn counters_sum(c: MacCounters) -> u64
@@ -121,58 +71,31 @@ fn counters_sum(c: MacCounters) -> u64
     plus(n, c.if_out_discards as u64)
 }
 
-fn of_mac_counters(x: OptMacCounters) -> u64
-    ensures { result ≡ or_zero counters_sum (opt_mac_counters x) }
+fn network_sum(part: NetworkDataPart) -> u64
+    ensures { result ≡ counts_sum part.counts }
 {
-    match x {
-        OptMacCounters::Some(c) => counters_sum(c),
-        OptMacCounters::None => 0,
-    }
+    counts_sum(part.counts)
 }
 
-fn of_network_data(payload: &[u8], x: OptNetworkData) -> u64
-    ensures { result ≡ or_zero network_sum (opt_network_data payload.now x) }
+fn part_len(part: Part) -> u64
+    ensures { result ≡ part.len }
 {
-    match x {
-        OptNetworkData::Some(n) => {
-            let counts = n.counts;
-            counts_sum(counts)
-        }
-        OptNetworkData::None => 0,
-    }
-}
-
-fn of_part(x: OptPart) -> u64
-    ensures { result ≡ or_zero part_len (opt_part x) }
-{
-    match x {
-        OptPart::Some { start: _, len } => len as u64,
-        OptPart::None => 0,
-    }
+    part.len as u64
 }
 
 // The record of a payload: the values that are read in it.
 pub(crate) fn values_sum(payload: &[u8], d: NetDiagData) -> u64
     ensures { result ≡ values_sum (diag_of payload.now d) }
 {
-    let mac_addr = d.mac_addr;
-    let mut n = plus(0, of_u16(mac_addr));
-    let timeout = d.timeout;
-    n = plus(n, of_u32(timeout));
-    let battery_level = d.battery_level;
-    n = plus(n, of_u8(battery_level));
-    let supply_voltage = d.supply_voltage;
-    n = plus(n, of_u16(supply_voltage));
-    let mode = d.mode;
-    n = plus(n, of_mode(mode));
-    let leader_data = d.leader_data;
-    n = plus(n, of_leader_data(leader_data));
-    let network_data = d.network_data;
-    n = plus(n, of_network_data(payload, network_data));
-    let connectivity = d.connectivity;
-    n = plus(n, of_connectivity(connectivity));
-    let mac_counters = d.mac_counters;
-    plus(n, of_mac_counters(mac_counters))
+    let mut n = plus(0, u64::from(d.mac_addr.unwrap_or(0)));
+    n = plus(n, u64::from(d.timeout.unwrap_or(0)));
+    n = plus(n, u64::from(d.battery_level.unwrap_or(0)));
+    n = plus(n, u64::from(d.supply_voltage.unwrap_or(0)));
+    n = plus(n, or_zero(d.mode, mode_sum));
+    n = plus(n, or_zero(d.leader_data, leader_sum));
+    n = plus(n, or_zero(d.network_data, network_sum));
+    n = plus(n, or_zero(d.connectivity, connectivity_sum));
+    plus(n, or_zero(d.mac_counters, counters_sum))
 }
 
 // And those that stay in the payload as they are.
@@ -180,12 +103,8 @@ pub(crate) fn parts_sum(payload: &[u8], d: NetDiagData) -> u64
     ensures { result ≡ parts_sum (diag_of payload.now d) }
 {
     let mut n = plus(0, d.child_ipv6_addresses as u64);
-    let ext_mac_addr = d.ext_mac_addr;
-    n = plus(n, of_part(ext_mac_addr));
-    let channel_pages = d.channel_pages;
-    n = plus(n, of_part(channel_pages));
-    let type_list = d.type_list;
-    n = plus(n, of_part(type_list));
-    let eui64 = d.eui64;
-    plus(n, of_part(eui64))
+    n = plus(n, or_zero(d.ext_mac_addr, part_len));
+    n = plus(n, or_zero(d.channel_pages, part_len));
+    n = plus(n, or_zero(d.type_list, part_len));
+    plus(n, or_zero(d.eui64, part_len))
 }

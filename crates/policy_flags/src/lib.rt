@@ -58,11 +58,10 @@ impl SecurityPolicyFlags {
     pub fn version_threshold_for_routing(self) -> ThreadProtocolVersion
         ensures { result ≡ threshold self.0 }
     {
-        let bits = self.0;
-        if self.contains(SecurityPolicyFlags::LEGACY_ROUTERS_ENABLED) {
+        if self.contains(Self::LEGACY_ROUTERS_ENABLED) {
             return ThreadProtocolVersion::V1Or2;
         }
-        let field = (bits & SecurityPolicyFlags::VERSION_THRESHOLD_MASK) >> 13;
+        let field = (self.0 & Self::VERSION_THRESHOLD_MASK) >> 13;
         match field {
             0 => ThreadProtocolVersion::V3,
             1 => ThreadProtocolVersion::V4,
@@ -82,13 +81,12 @@ impl SecurityPolicyFlags {
     ) -> SecurityPolicyFlags
         ensures { result.0 ≡ with_threshold self.0 version }
     {
-        let bits = self.0;
-        let others = bits & !SecurityPolicyFlags::LEGACY_ROUTERS_ENABLED;
-        let rest = others & !SecurityPolicyFlags::VERSION_THRESHOLD_MASK;
+        let others = self.0 & !Self::LEGACY_ROUTERS_ENABLED;
+        let rest = others & !Self::VERSION_THRESHOLD_MASK;
         match version {
-            ThreadProtocolVersion::V1Or2 => SecurityPolicyFlags(
-                bits | SecurityPolicyFlags::LEGACY_ROUTERS_ENABLED,
-            ),
+            ThreadProtocolVersion::V1Or2 => {
+                SecurityPolicyFlags(self.0 | Self::LEGACY_ROUTERS_ENABLED)
+            }
             ThreadProtocolVersion::V3 => SecurityPolicyFlags(rest),
             ThreadProtocolVersion::V4 => SecurityPolicyFlags(rest | 0x2000),
             ThreadProtocolVersion::V5 => SecurityPolicyFlags(rest | 0x4000),

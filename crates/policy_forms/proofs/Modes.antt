@@ -7,32 +7,30 @@ use Prim.Native.Nat.{ℕ, ◌+◌, ◌*◌, ◌≤◌}
 use native.Mathlib.Omega.{arith}
 use lib.ListN.{length, take, drop, get_or}
 use borrow.Author.Tests.{ne_eqb, le-ltb}
+use Rattle.std.specs.Prelude.{Result, Ok, Err, Option, Some, None}
+use mir.Syntax.{w16}
+use Rattle.std.specs.Int.{from_be_bytes}
 use Rattle.refusal.specs.Sizes.{most_bytes}
-use Rattle.refusal.specs.Answer.{Answer, given, absent, refused, then_do, on_given}
-use Rattle.refusal.specs.Number.{refusal_answer}
+use Rattle.refusal.specs.Answer.{given, absent, refused, then_do, on_given}
 use Rattle.refusal.specs.declared.Refusal.{Refusal}
+use Rattle.refusal.specs.Results.{found_of, answer_of}
 use Rattle.laws.proofs.Answers.{gives, then_gives, on_on, on_then}
 use Rattle.wire.specs.Be.{be, be_from, wrong_length, ruled}
 use Rattle.wire.proofs.Bes.{ruled_is, ruled_gives}
 use Rattle.tlv.specs.Entries.{Entry}
-use Rattle.tlv_last.specs.Last.{last_entry, last_spot}
-use Rattle.tlv_last.specs.Answers.{found_answer}
-use Rattle.tlv_last.specs.declared.Found.{Found}
-use Rattle.tlv_last.specs.declared.Found.TheVariants as f
-use Rattle.values.specs.Typed.{policy_of, policy_answer}
-use Rattle.values.specs.declared.ReadPolicy.{ReadPolicy}
-use Rattle.values.specs.declared.ReadPolicy.TheVariants as b
+use Rattle.tlv_last.specs.Last.{last_entry, spot_at, last_spot}
+use Rattle.values.specs.Typed.{policy_of}
+use Rattle.values.specs.declared.SecurityPolicy.{SecurityPolicy}
 use Rattle.dataset.specs.Queries as q
-use Rattle.dataset.proofs.Finds.{found, none_found, found_refused}
-use Rattle.policy_forms.specs.Forms.{Numbers, numbers, four_numbers, numbers_in, read, query, either_answer}
+use Rattle.dataset.proofs.Finds.{found, none_found, refused_found}
+use Rattle.policy_forms.specs.Forms.{Numbers, numbers, four_numbers, numbers_in, read, query}
+use Rattle.policy_forms.specs.declared.EitherPolicy.{EitherPolicy}
 use Rattle.policy_forms.specs.declared.EitherPolicy.TheVariants as p
-use Rattle.policy_forms.specs.declared.ReadEither.{ReadEither}
-use Rattle.policy_forms.specs.declared.ReadEither.TheVariants as r
-use Rattle.policy_forms.proofs.Papers.{either_tells}
+use Rattle.policy_forms.proofs.Papers.{either_answer, either_found, either_tells, found_either_tells}
 
 -- ---- three bytes
 
-pub three_of : (v : List ℕ) → length v ≡ 3 → numbers 3 (get_or v 0 0 * 256 + get_or v 1 0) (get_or v 2 0) ≡ numbers_in 3 v
+pub three_of : (v : List ℕ) → length v ≡ 3 → numbers 3 (from_be_bytes w16 (get_or v 0 0 ∷ get_or v 1 0 ∷ [])) (get_or v 2 0) ≡ numbers_in 3 v
 unfolding be be_from
 three_of [] h = absurd (omega arith)
 three_of (a ∷ []) h = absurd (omega arith)
@@ -58,32 +56,40 @@ query_four s =
     ∙ sym (on_then four_numbers (λ (e : Entry). on_given policy_of (ruled 4 e.place e.value)) (last_entry 12 0 s))
 
 -- for the code, by what the base's call answered
-pub four_is : (place : ℕ) (v : List ℕ) (r x : ReadPolicy) → policy_answer r ≡ on_given policy_of (ruled 4 place v) → r ≡ x
-    → on_given four_numbers (policy_answer x) ≡ read 4 place v
-four_is place v r x says is = ap (λ (y : ReadPolicy). on_given four_numbers (policy_answer y)) (sym is) ∙ ap (on_given four_numbers) says ∙ sym (read_four place v)
+pub four_is : (place : ℕ) (v : List ℕ) (x : Result SecurityPolicy Refusal) → answer_of x ≡ on_given policy_of (ruled 4 place v)
+    → on_given four_numbers (answer_of x) ≡ read 4 place v
+four_is place v x says = ap (on_given four_numbers) says ∙ sym (read_four place v)
 
 -- what the base's calls answer, as one of either form
-abbrev pub as_either : ReadPolicy → ReadEither
-as_either (b.Value x) = r.Value (p.Four x)
-as_either b.Absent = r.Absent
-as_either (b.Refused x) = r.Refused x
+abbrev pub as_either : Result SecurityPolicy Refusal → Result EitherPolicy Refusal
+as_either (Ok x) = Ok (p.Four x)
+as_either (Err x) = Err x
 
-as_either_lem : (x : ReadPolicy) → on_given four_numbers (policy_answer x) ≡ either_answer (as_either x)
-as_either_lem (b.Value x) = refl
-as_either_lem b.Absent = refl
-as_either_lem (b.Refused x) = refl
+abbrev pub as_either_found : Result (Option SecurityPolicy) Refusal → Result (Option EitherPolicy) Refusal
+as_either_found (Ok (Some x)) = Ok (Some (p.Four x))
+as_either_found (Ok None) = Ok None
+as_either_found (Err x) = Err x
 
-same_as : (a : ReadEither) (x : ReadPolicy) (y : Answer Numbers) → either_answer a ≡ y → y ≡ on_given four_numbers (policy_answer x) → a ≡ as_either x
-same_as a x y says is = either_tells a (as_either x) (says ∙ is ∙ as_either_lem x)
+as_either_lem : (x : Result SecurityPolicy Refusal) → on_given four_numbers (answer_of x) ≡ either_answer (as_either x)
+as_either_lem (Ok x) = refl
+as_either_lem (Err x) = refl
+
+as_found_lem : (x : Result (Option SecurityPolicy) Refusal) → on_given four_numbers (found_of x) ≡ either_found (as_either_found x)
+as_found_lem (Ok (Some x)) = refl
+as_found_lem (Ok None) = refl
+as_found_lem (Err x) = refl
 
 -- a is what `EitherPolicy::parse` answers in the four-byte mode, x what `SecurityPolicy::parse` answers
-pub parse_as_base : (place : ℕ) (v : List ℕ) (a : ReadEither) (x : ReadPolicy) → either_answer a ≡ read 4 place v
-    → policy_answer x ≡ on_given policy_of (ruled 4 place v) → a ≡ as_either x
-parse_as_base place v a x says base = same_as a x _ says (read_four place v ∙ ap (on_given four_numbers) (sym base))
+pub parse_as_base : (place : ℕ) (v : List ℕ) (a : Result EitherPolicy Refusal) (x : Result SecurityPolicy Refusal) → either_answer a ≡ read 4 place v
+    → answer_of x ≡ on_given policy_of (ruled 4 place v) → a ≡ as_either x
+parse_as_base place v a x says base =
+    either_tells a (as_either x) (says ∙ read_four place v ∙ ap (on_given four_numbers) (sym base) ∙ as_either_lem x)
 
 -- and so of `policy_forms::security_policy` and `dataset::security_policy`
-pub query_as_base : (s : List ℕ) (a : ReadEither) (x : ReadPolicy) → either_answer a ≡ query 4 s → policy_answer x ≡ q.query 12 policy_of s → a ≡ as_either x
-query_as_base s a x says base = same_as a x _ says (query_four s ∙ ap (on_given four_numbers) (sym base))
+pub query_as_base : (s : List ℕ) (a : Result (Option EitherPolicy) Refusal) (x : Result (Option SecurityPolicy) Refusal) → either_found a ≡ query 4 s
+    → found_of x ≡ q.query 12 policy_of s → a ≡ as_either_found x
+query_as_base s a x says base =
+    found_either_tells a (as_either_found x) (says ∙ query_four s ∙ ap (on_given four_numbers) (sym base) ∙ as_found_lem x)
 
 -- ---- a value is read in the form whose length it has, and in no other
 
@@ -117,15 +123,15 @@ query_not_both s m n a b =
     read_not_both _ _ x.0.value m n x.2 (rw (← same) at y.2)
 
 -- ---- the query, by what `last_entry` answered
-module _ (k : ℕ) (s : List ℕ) (r : Found) (says : found_answer r ≡ last_spot 12 0 s) where
-  pub query_at : (p a n : ℕ) → r ≡ f.At p a n → read k p (take n (drop a s)) ≡ query k s
+module _ (k : ℕ) (s : List ℕ) where
+  pub query_at : (p a n : ℕ) → given (spot_at p a n) ≡ last_spot 12 0 s → read k p (take n (drop a s)) ≡ query k s
   unfolding query
-  query_at p a n is = rw (found 12 s r says p a n is).is
+  query_at p a n told = rw (found 12 s p a n told).is
 
-  pub query_none : r ≡ f.Absent → absent ≡ query k s
+  pub query_none : absent ≡ last_spot 12 0 s → absent ≡ query k s
   unfolding query
-  query_none is = none_found 12 s r says _ is
+  query_none told = rw (none_found 12 s told)
 
-  pub query_refused : (q : Refusal) → r ≡ f.Refused q → refusal_answer q ≡ query k s
+  pub query_refused : (m q j : ℕ) → refused m q j ≡ last_spot 12 0 s → refused m q j ≡ query k s
   unfolding query
-  query_refused q is = found_refused 12 s r says _ q is
+  query_refused m q j told = rw (refused_found 12 s m q j told)

@@ -6,23 +6,23 @@ use Prim.Native.Nat.{ℕ, ◌-◌, ◌^◌, ◌≤◌, ◌<◌}
 use native.Mathlib.Omega.{arith}
 use lib.ListN.{length, take, drop, length-append, length-drop, take-append-drop}
 use lib.Seq.{take_at, drop_at, length-take-le}
+use Rattle.std.specs.Prelude.{Result, Ok}
 use Rattle.refusal.specs.Answer.{given}
 use Rattle.refusal.specs.Every.{Bytes}
 use Rattle.refusal.specs.Output.{output, emit}
+use Rattle.refusal.specs.declared.Refusal.{Refusal}
 use Rattle.laws.proofs.Callers.{gave_front}
 use Rattle.laws.proofs.Parts.{every_take, every_drop}
 use Rattle.wire_bytes.specs.Bytes.{bytes_of}
 use Rattle.wire.specs.Be.{be}
 use Rattle.wire.proofs.Bes.{ruled_is}
 use Rattle.wire.proofs.Round.{be_bytes, bytes_read, length_bytes, be_small}
-use Rattle.policy_forms.specs.Forms.{size_in, Numbers, numbers, numbers_of, numbers_in, read, stored_bytes, either_answer}
+use Rattle.policy_forms.specs.Forms.{size_in, Numbers, numbers, numbers_of, numbers_in, read, stored_bytes}
 use Rattle.policy_forms.specs.declared.PolicyForm.{PolicyForm}
 use Rattle.policy_forms.specs.declared.PolicyForm.TheVariants as f
 use Rattle.policy_forms.specs.declared.EitherPolicy.{EitherPolicy}
-use Rattle.policy_forms.specs.declared.ReadEither.{ReadEither}
-use Rattle.policy_forms.specs.declared.ReadEither.TheVariants as r
 use Rattle.policy_forms.proofs.Modes.{read_is}
-use Rattle.policy_forms.proofs.Papers.{either_tells}
+use Rattle.policy_forms.proofs.Papers.{either_answer, either_tells}
 
 -- the numbers fit into their bytes, as those of a value of the code's type do
 abbrev pub Fit : Numbers → Type 0
@@ -76,15 +76,15 @@ module _ (form : PolicyForm) (place : ℕ) where
   )
 
   -- of what `write` wrote of a policy, which are the first n bytes of what is left, `parse` in its form answers that policy
-  pub parse_back : (x : EitherPolicy) (out left : List ℕ) (n : ℕ) (a : ReadEither) → (numbers_of x).size ≡ size_in form → Fit (numbers_of x)
-      → output (given n) left ≡ emit (given (stored_bytes (numbers_of x))) out → either_answer a ≡ read (size_in form) place (take n left) → a ≡ r.Value x
+  pub parse_back : (x : EitherPolicy) (out left : List ℕ) (n : ℕ) (a : Result EitherPolicy Refusal) → (numbers_of x).size ≡ size_in form → Fit (numbers_of x)
+      → output (given n) left ≡ emit (given (stored_bytes (numbers_of x))) out → either_answer a ≡ read (size_in form) place (take n left) → a ≡ Ok x
   parse_back x out left n a same fit wrote says =
       let front = gave_front out left _ n wrote in
       let bytes : stored_bytes (numbers_of x) ≡ take n left = cc in
-      either_tells a (r.Value x) (says ∙ ap (read (size_in form) place) (sym bytes) ∙ round_trip.0 (numbers_of x) same fit)
+      either_tells a (Ok x) (says ∙ ap (read (size_in form) place) (sym bytes) ∙ round_trip.0 (numbers_of x) same fit)
 
   -- of a value v that `parse` answered with the policy x
-  module _ (v : List ℕ) (x : EitherPolicy) (says : either_answer (r.Value x) ≡ read (size_in form) place v) where
+  module _ (v : List ℕ) (x : EitherPolicy) (says : either_answer (Ok x) ≡ read (size_in form) place v) where
     -- x has the form, and fits
     pub parsed_size : (numbers_of x).size ≡ size_in form
     parsed_size = ap (λ (n : Numbers). n.size) (sym (read_is (size_in form) place v (numbers_of x) (sym says)).1)

@@ -6,49 +6,45 @@ use mathlib.Core.List.{List}
 use Prim.Native.Nat.{ℕ}
 use native.Mathlib.Omega.{arith}
 use lib.ListN.{take}
+use Rattle.std.specs.Prelude.{Ok, Err, Result, Option, Some, None}
 use Rattle.refusal.specs.Answer.{given, on_given}
 use Rattle.refusal.specs.Every.{Bytes}
 use Rattle.refusal.specs.Output.{output, emit}
+use Rattle.refusal.specs.declared.Refusal.{Refusal}
 use Rattle.wire.specs.Be.{ruled}
 use Rattle.policy_flags.specs.Threshold.{threshold}
 use Rattle.policy_flags.specs.declared.ThreadProtocolVersion.{ThreadProtocolVersion}
 use Rattle.policy_flags.proofs.Thresholds.{set_reads, set_fits}
 use Rattle.values.specs.Typed.{policy_of}
 use Rattle.values.specs.declared.SecurityPolicy.{SecurityPolicy}
-use Rattle.values.specs.declared.ReadPolicy.TheVariants as b
-use Rattle.policy_forms.specs.Forms.{size_in, numbers_of, read, stored_bytes, either_answer, threshold_in, set_four, set_in}
+use Rattle.policy_forms.specs.Forms.{size_in, numbers_of, read, stored_bytes, threshold_in, set_four, set_in}
 use Rattle.policy_forms.specs.declared.PolicyForm.{PolicyForm}
 use Rattle.policy_forms.specs.declared.PolicyForm.TheVariants as f
 use Rattle.policy_forms.specs.declared.EitherPolicy.{EitherPolicy}
 use Rattle.policy_forms.specs.declared.EitherPolicy.TheVariants as p
-use Rattle.policy_forms.specs.declared.ReadEither.{ReadEither}
-use Rattle.policy_forms.specs.declared.ReadEither.TheVariants as r
-use Rattle.policy_forms.specs.declared.StatedThreshold.{StatedThreshold}
-use Rattle.policy_forms.specs.declared.StatedThreshold.TheVariants as s
-use Rattle.policy_forms.specs.declared.ThresholdSet.{ThresholdSet}
-use Rattle.policy_forms.specs.declared.ThresholdSet.TheVariants as t
+use Rattle.policy_forms.proofs.Papers.{either_answer}
 use Rattle.policy_forms.proofs.Modes.{parse_as_base}
 use Rattle.policy_forms.proofs.Round.{Fit, parse_back, parsed_size, parsed_fits}
 
 -- the policy that a call to set the threshold hands back, and what reading the threshold of that has to answer
-abbrev pub policy_after : ThresholdSet → EitherPolicy
-policy_after (t.Set x) = x
-policy_after (t.NoneStated x) = x
+abbrev pub policy_after : Result EitherPolicy EitherPolicy → EitherPolicy
+policy_after (Ok x) = x
+policy_after (Err x) = x
 
-abbrev pub stated_after : ThresholdSet → ThreadProtocolVersion → StatedThreshold
-stated_after (t.Set x) v = s.Version v
-stated_after (t.NoneStated x) v = s.NoneStated
+abbrev pub stated_after : Result EitherPolicy EitherPolicy → ThreadProtocolVersion → Option ThreadProtocolVersion
+stated_after (Ok x) v = Some v
+stated_after (Err x) v = None
 
 pub set_then_read : (x : EitherPolicy) (v : ThreadProtocolVersion) → threshold_in (policy_after (set_in x v)) ≡ stated_after (set_in x v) v
 set_then_read (p.Three x) v = refl
-set_then_read (p.Four x) v = ap s.Version (set_reads x.flags.0 v)
+set_then_read (p.Four x) v = ap Some (set_reads x.flags.0 v)
 
 -- "a call to set it answers "none stated" too and hands the value back unchanged": wherever none is stated, and nowhere else
-pub none_set : (x : EitherPolicy) (v : ThreadProtocolVersion) → threshold_in x ≡ s.NoneStated → set_in x v ≡ t.NoneStated x
+pub none_set : (x : EitherPolicy) (v : ThreadProtocolVersion) → threshold_in x ≡ None → set_in x v ≡ Err x
 none_set (p.Three x) v e = refl
 none_set (p.Four x) v e = absurd (let z : ◌≡◌ {A = ℕ} 0 1 = cc in omega arith)
 
-pub only_none : (x y : EitherPolicy) (v : ThreadProtocolVersion) → set_in x v ≡ t.NoneStated y → (threshold_in x ≡ s.NoneStated) × (y ≡ x)
+pub only_none : (x y : EitherPolicy) (v : ThreadProtocolVersion) → set_in x v ≡ Err y → (threshold_in x ≡ None) × (y ≡ x)
 only_none (p.Three x) y v e = (refl, cc)
 only_none (p.Four x) y v e = absurd (let z : ◌≡◌ {A = ℕ} 0 1 = cc in omega arith)
 
@@ -63,10 +59,10 @@ set_fit (p.Four x) v fit = (fit.0, set_fits x.flags.0 v fit.1)
 
 -- A value is read in a form, its threshold is set, and of what that hands back n bytes are written: `parse`, in the same form and told any place, answers of these
 -- what was handed back.
-pub set_back : (form : PolicyForm) (place again : ℕ) (bytes : List ℕ) (x : EitherPolicy) → Bytes bytes → either_answer (r.Value x) ≡ read (size_in form) place bytes
-    → (v : ThreadProtocolVersion) (out left : List ℕ) (n : ℕ) (a : ReadEither)
+pub set_back : (form : PolicyForm) (place again : ℕ) (bytes : List ℕ) (x : EitherPolicy) → Bytes bytes → either_answer (Ok x) ≡ read (size_in form) place bytes
+    → (v : ThreadProtocolVersion) (out left : List ℕ) (n : ℕ) (a : Result EitherPolicy Refusal)
     → output (given n) left ≡ emit (given (stored_bytes (numbers_of (policy_after (set_in x v))))) out → either_answer a ≡ read (size_in form) again (take n left)
-    → a ≡ r.Value (policy_after (set_in x v))
+    → a ≡ Ok (policy_after (set_in x v))
 set_back form place again bytes x b says v out left n a =
     parse_back form again (policy_after (set_in x v)) out left n a ((set_stays x v).0 ∙ parsed_size form place bytes x says)
     (set_fit x v (parsed_fits form place bytes x says b))
@@ -75,18 +71,18 @@ set_back form place again bytes x b says v out left n a =
 
 module _ (place : ℕ) (bytes : List ℕ) (x : EitherPolicy) where
   -- three bytes: "the threshold answers "none stated" and can't be set"
-  pub three_states_none : either_answer (r.Value x) ≡ read 3 place bytes
-      → (threshold_in x ≡ s.NoneStated) × ((v : ThreadProtocolVersion) → set_in x v ≡ t.NoneStated x)
+  pub three_states_none : either_answer (Ok x) ≡ read 3 place bytes
+      → (threshold_in x ≡ None) × ((v : ThreadProtocolVersion) → set_in x v ≡ Err x)
   three_states_none says = of x (parsed_size f.ThreeBytes place bytes x says)
     where
-      of : (y : EitherPolicy) → (numbers_of y).size ≡ 3 → (threshold_in y ≡ s.NoneStated) × ((v : ThreadProtocolVersion) → set_in y v ≡ t.NoneStated y)
+      of : (y : EitherPolicy) → (numbers_of y).size ≡ 3 → (threshold_in y ≡ None) × ((v : ThreadProtocolVersion) → set_in y v ≡ Err y)
       of (p.Three y) e = (refl, λ v. refl)
       of (p.Four y) e = absurd (omega arith)
 
   -- four bytes, of which document 01's call answers y: its threshold, and its setting
-  pub four_as_base : (y : SecurityPolicy) → either_answer (r.Value x) ≡ read 4 place bytes → given y ≡ on_given policy_of (ruled 4 place bytes)
-      → (x ≡ p.Four y) × (threshold_in x ≡ s.Version (threshold y.flags.0)) × ((v : ThreadProtocolVersion) → set_in x v ≡ t.Set (p.Four (set_four y v)))
+  pub four_as_base : (y : SecurityPolicy) → either_answer (Ok x) ≡ read 4 place bytes → given y ≡ on_given policy_of (ruled 4 place bytes)
+      → (x ≡ p.Four y) × (threshold_in x ≡ Some (threshold y.flags.0)) × ((v : ThreadProtocolVersion) → set_in x v ≡ Ok (p.Four (set_four y v)))
   four_as_base y says base =
-      let same = parse_as_base place bytes (r.Value x) (b.Value y) says base in
+      let same = parse_as_base place bytes (Ok x) (Ok y) says base in
       let is : x ≡ p.Four y = cc in
       (is, rw is, λ v. rw is)

@@ -1,9 +1,8 @@
 -- The security policy in its two forms. Document 02, Nine: "Thread 1.1 sites store the security policy in three bytes: rotation and a single flag byte.
 -- Later versions use four. Add a reading mode for each, chosen by name".
 -- Assumes nothing.
-use Rattle.std.specs.Prelude.{ℕ, ◌-◌, List, ◌++◌, take, drop}
-use Rattle.refusal.specs.Answer.{Answer, given, absent, then_do, on_given}
-use Rattle.refusal.specs.Number.{refusal_answer}
+use Rattle.std.specs.Prelude.{ℕ, ◌-◌, List, ◌++◌, take, drop, Result, Ok, Err, Option, Some, None}
+use Rattle.refusal.specs.Answer.{Answer, then_do, on_given}
 use Rattle.wire_bytes.specs.Bytes.{bytes_of}
 use Rattle.wire.specs.Be.{be, ruled}
 use Rattle.tlv.specs.Entries.{Entry}
@@ -15,12 +14,6 @@ use Rattle.policy_forms.specs.declared.PolicyForm.{PolicyForm}
 use Rattle.policy_forms.specs.declared.PolicyForm.TheVariants as f
 use Rattle.policy_forms.specs.declared.EitherPolicy.{EitherPolicy}
 use Rattle.policy_forms.specs.declared.EitherPolicy.TheVariants as p
-use Rattle.policy_forms.specs.declared.ReadEither.{ReadEither}
-use Rattle.policy_forms.specs.declared.ReadEither.TheVariants as r
-use Rattle.policy_forms.specs.declared.StatedThreshold.{StatedThreshold}
-use Rattle.policy_forms.specs.declared.StatedThreshold.TheVariants as s
-use Rattle.policy_forms.specs.declared.ThresholdSet.{ThresholdSet}
-use Rattle.policy_forms.specs.declared.ThresholdSet.TheVariants as t
 
 -- how many bytes a policy of each form has
 abbrev pub size_in : PolicyForm → ℕ
@@ -60,21 +53,15 @@ stored_bytes n = bytes_of 2 n.rotation ++ bytes_of (n.size - 2) n.flags
 unfoldable pub query : (size : ℕ) → List ℕ → Answer Numbers
 query k s = then_do (last_entry 12 0 s) (λ (e : Entry). read k e.place e.value)
 
--- the code's answer, on paper
-abbrev pub either_answer : ReadEither → Answer Numbers
-either_answer (r.Value x) = given (numbers_of x)
-either_answer r.Absent = absent
-either_answer (r.Refused x) = refusal_answer x
-
 -- "In the three-byte mode the flag byte is kept raw and the threshold answers "none stated" and can't be set: a call to set it answers "none stated"
 -- too and hands the value back unchanged." In the four-byte mode both are document 01's.
-abbrev pub threshold_in : EitherPolicy → StatedThreshold
-threshold_in (p.Three x) = s.NoneStated
-threshold_in (p.Four x) = s.Version (threshold x.flags.0)
+abbrev pub threshold_in : EitherPolicy → Option ThreadProtocolVersion
+threshold_in (p.Three x) = None
+threshold_in (p.Four x) = Some (threshold x.flags.0)
 
 abbrev pub set_four : SecurityPolicy → ThreadProtocolVersion → SecurityPolicy
 set_four x v = record { rotation_time = x.rotation_time; flags = record { 0 = with_threshold x.flags.0 v } }
 
-abbrev pub set_in : EitherPolicy → ThreadProtocolVersion → ThresholdSet
-set_in (p.Three x) v = t.NoneStated (p.Three x)
-set_in (p.Four x) v = t.Set (p.Four (set_four x v))
+abbrev pub set_in : EitherPolicy → ThreadProtocolVersion → Result EitherPolicy EitherPolicy
+set_in (p.Three x) v = Err (p.Three x)
+set_in (p.Four x) v = Ok (p.Four (set_four x v))

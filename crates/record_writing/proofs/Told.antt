@@ -14,14 +14,14 @@ use Rattle.refusal.specs.Sizes.{most_prefixes, most_has_routes, most_border_rout
 use Rattle.refusal.specs.Every.{Every}
 use Rattle.refusal.specs.Answer.{pick, Answer, given, absent, refused, on_given}
 use Rattle.refusal.specs.Each.{all}
+use Rattle.refusal.specs.Results.{option_of}
 use Rattle.laws.proofs.Bits.{both}
 use Rattle.laws.proofs.Parts.{every_take}
 use Rattle.tlv_writing.specs.Encode.{sized}
 use Rattle.network_data.specs.declared.Counts.{Counts}
 use Rattle.route64.specs.Routes.{Route}
-use Rattle.diag_rows.specs.Rows.{Part}
+use Rattle.diag_rows.specs.declared.Part.{Part}
 use Rattle.diag_rows.specs.declared.ChildIpv6AddrInfo.{ChildIpv6AddrInfo}
-use Rattle.diag.specs.Answers.{opt_part}
 use Rattle.diag.specs.declared.NetDiagData.{NetDiagData}
 use Rattle.network_writing.specs.Tables.{routes_asked, borders_asked}
 use Rattle.network_writing.proofs.Round.{Small}
@@ -44,9 +44,9 @@ picked false x n p i y e = absurd (let z : ◌≡◌ {A = ℕ} 0 1 = cc in omega
 -- the tests of 15 that are the call's own
 pub record Agreed (r : NetDiagData) (l : Lent) : Type 0 where
   pub parts : parts_inside r l.bytes ≡ true
-  pub routers : passes (λ (q : Part). routes_counted l.route64) (opt_part r.route64) ≡ true
+  pub routers : passes (λ (q : Part). routes_counted l.route64) (option_of r.route64) ≡ true
   pub tables : passes (tables_agree l) (opt_counts r.network_data) ≡ true
-  pub children : passes (children_agree l.children) (opt_part r.child_table) ≡ true
+  pub children : passes (children_agree l.children) (option_of r.child_table) ≡ true
   pub count : r.child_ipv6_addresses ≤ length l.lists
   pub lists : all (list_inside l.bytes) (lists_of r l) ≡ true
 
@@ -54,9 +54,9 @@ agreed : (r : NetDiagData) (l : Lent) → agrees r l ≡ true → Agreed r l
 unfolding agrees
 agreed r l h =
     let a = both (parts_inside r l.bytes) _ h in
-    let b = both (passes (λ (q : Part). routes_counted l.route64) (opt_part r.route64)) _ a.1 in
+    let b = both (passes (λ (q : Part). routes_counted l.route64) (option_of r.route64)) _ a.1 in
     let c = both (passes (tables_agree l) (opt_counts r.network_data)) _ b.1 in
-    let d = both (passes (children_agree l.children) (opt_part r.child_table)) _ c.1 in
+    let d = both (passes (children_agree l.children) (option_of r.child_table)) _ c.1 in
     let e = both (enough l.lists r.child_ipv6_addresses) _ d.1 in
     record { parts = a.0; routers = b.0; tables = c.0; children = d.0; count = leb-true _ _ e.0; lists = e.1 }
 
@@ -147,7 +147,7 @@ typed r l m = record {
   mac_addr = m.mac_addr;
   timeout = m.timeout;
   connectivity = m.connectivity;
-  route64 = mask_typed l m.mask (opt_part r.route64);
+  route64 = mask_typed l m.mask (option_of r.route64);
   leader_data = m.leader_data;
   mac_counters = m.mac_counters;
   supply_voltage = m.supply_voltage;

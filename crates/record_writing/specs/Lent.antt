@@ -1,8 +1,9 @@
 -- What a record and the tables that are lent with it say. Document 02, One: "a writer from a diagnostic record and its tables to payload bytes". What the
 -- record keeps as parts lies in the lent bytes; a table's rows are the first of what is lent, as many as the record counts.
 -- Assumes nothing.
-use Rattle.std.specs.Prelude.{ℕ, ◌/◌, List, map, take}
+use Rattle.std.specs.Prelude.{ℕ, ◌/◌, List, map, take, Option, Some, None}
 use Rattle.refusal.specs.Answer.{Answer, given, absent, on_given}
+use Rattle.refusal.specs.Results.{option_of}
 use Rattle.network_data.specs.Decode.{Prefix}
 use Rattle.network_data.specs.declared.Counts.{Counts}
 use Rattle.network_data.specs.declared.PrefixEntry.{PrefixEntry}
@@ -10,14 +11,12 @@ use Rattle.network_data.specs.declared.HasRouteEntry.{HasRouteEntry}
 use Rattle.network_data.specs.declared.BorderRouterEntry.{BorderRouterEntry}
 use Rattle.route64.specs.Routes.{Route}
 use Rattle.route64.specs.declared.Route64.{Route64}
-use Rattle.diag_values.specs.Answers.{opt_answer8, opt_answer16}
-use Rattle.diag_rows.specs.Rows.{Part}
+use Rattle.diag_rows.specs.declared.Part.{Part}
 use Rattle.diag_rows.specs.declared.ChildTableEntry.{ChildTableEntry}
 use Rattle.diag_rows.specs.declared.ChildIpv6AddrInfo.{ChildIpv6AddrInfo}
 use Rattle.diag_entries.specs.Answers.{bytes_at}
-use Rattle.diag.specs.Answers.{opt_answer32, opt_mode, opt_connectivity, opt_leader_data, opt_mac_counters, opt_part}
-use Rattle.diag.specs.declared.OptNetworkData.{OptNetworkData}
-use Rattle.diag.specs.declared.OptNetworkData.TheVariants as n
+use Rattle.diag.specs.Answers.{opt_connectivity}
+use Rattle.diag.specs.declared.NetworkDataPart.{NetworkDataPart}
 use Rattle.diag.specs.declared.NetDiagData.{NetDiagData}
 use Rattle.network_writing.specs.Tables.{prefixes_of}
 use Rattle.value_writing.specs.Encode.{ListValue}
@@ -43,9 +42,9 @@ part_bytes s q = bytes_at s q.start q.len
 abbrev pub route_used : Route64 → Route
 route_used t = record { sequence = t.id_sequence; mask = t.mask; rows = take t.count t.route_data }
 
-abbrev pub opt_counts : OptNetworkData → Answer Counts
-opt_counts (n.Some x) = given x.counts
-opt_counts n.None = absent
+abbrev pub opt_counts : Option NetworkDataPart → Answer Counts
+opt_counts (Some x) = given x.counts
+opt_counts None = absent
 
 abbrev pub network_of : Lent → Counts → List Prefix
 network_of l c = prefixes_of (take c.prefixes l.prefixes) (take c.has_routes l.routes) (take c.border_routers l.borders)
@@ -59,21 +58,21 @@ list_of s x = record { rloc16 = x.rloc16; child_id = x.child_id; addresses = byt
 
 unfoldable pub values_of : NetDiagData → Lent → Values
 values_of r l = record {
-  ext_mac_addr = on_given (part_bytes l.bytes) (opt_part r.ext_mac_addr);
-  mac_addr = opt_answer16 r.mac_addr;
-  mode = opt_mode r.mode;
-  timeout = opt_answer32 r.timeout;
+  ext_mac_addr = on_given (part_bytes l.bytes) (option_of r.ext_mac_addr);
+  mac_addr = option_of r.mac_addr;
+  mode = option_of r.mode;
+  timeout = option_of r.timeout;
   connectivity = opt_connectivity r.connectivity;
-  route64 = on_given (λ (q : Part). route_used l.route64) (opt_part r.route64);
-  leader_data = opt_leader_data r.leader_data;
+  route64 = on_given (λ (q : Part). route_used l.route64) (option_of r.route64);
+  leader_data = option_of r.leader_data;
   network_data = on_given (network_of l) (opt_counts r.network_data);
-  addresses = on_given (part_bytes l.bytes) (opt_part r.addresses);
-  mac_counters = opt_mac_counters r.mac_counters;
-  battery_level = opt_answer8 r.battery_level;
-  supply_voltage = opt_answer16 r.supply_voltage;
-  child_table = on_given (children_of l.children) (opt_part r.child_table);
-  channel_pages = on_given (part_bytes l.bytes) (opt_part r.channel_pages);
-  type_list = on_given (part_bytes l.bytes) (opt_part r.type_list);
-  eui64 = on_given (part_bytes l.bytes) (opt_part r.eui64);
+  addresses = on_given (part_bytes l.bytes) (option_of r.addresses);
+  mac_counters = option_of r.mac_counters;
+  battery_level = option_of r.battery_level;
+  supply_voltage = option_of r.supply_voltage;
+  child_table = on_given (children_of l.children) (option_of r.child_table);
+  channel_pages = on_given (part_bytes l.bytes) (option_of r.channel_pages);
+  type_list = on_given (part_bytes l.bytes) (option_of r.type_list);
+  eui64 = on_given (part_bytes l.bytes) (option_of r.eui64);
   child_lists = map (list_of l.bytes) (take r.child_ipv6_addresses l.lists);
 }

@@ -3,22 +3,22 @@
 -- Assumes nothing.
 use Rattle.std.specs.Prelude.{◌≡◌, ◌<◌, length}
 use Rattle.refusal.specs.Every.{Every}
+use Rattle.refusal.specs.Results.{option_of}
 use Rattle.connectivity.specs.Connectivity.{ConnectivityValue}
-use Rattle.diag_values.specs.Answers.{opt_answer16}
 use Rattle.diag_values.specs.declared.LeaderData.{LeaderData}
 use Rattle.diag_rows.specs.declared.ChildIpv6AddrInfo.{ChildIpv6AddrInfo}
-use Rattle.diag.specs.Answers.{opt_answer32, opt_connectivity, opt_leader_data, opt_mac_counters}
+use Rattle.diag.specs.Answers.{opt_connectivity}
 use Rattle.diag.specs.declared.NetDiagData.{NetDiagData}
 use Rattle.value_writing.specs.Fits.{Under, Words}
 use Rattle.record_writing.specs.Typed.{Given}
 use Rattle.record_writing.specs.Lent.{Lent}
 
 pub record Machine (r : NetDiagData) (l : Lent) : Type 0 where
-  pub mac_addr : Under 65536 (opt_answer16 r.mac_addr)
-  pub timeout : Under 4294967296 (opt_answer32 r.timeout)
+  pub mac_addr : Under 65536 (option_of r.mac_addr)
+  pub timeout : Under 4294967296 (option_of r.timeout)
   pub connectivity : Given (λ (c : ConnectivityValue). Under 65536 c.buffer_size) (opt_connectivity r.connectivity)
   pub mask : length l.route64.mask ≡ 8
-  pub leader_data : Given (λ (x : LeaderData). x.partition_id < 4294967296) (opt_leader_data r.leader_data)
-  pub mac_counters : Given Words (opt_mac_counters r.mac_counters)
-  pub supply_voltage : Under 65536 (opt_answer16 r.supply_voltage)
+  pub leader_data : Given (λ (x : LeaderData). x.partition_id < 4294967296) (option_of r.leader_data)
+  pub mac_counters : Given Words (option_of r.mac_counters)
+  pub supply_voltage : Under 65536 (option_of r.supply_voltage)
   pub lists : Every (λ (x : ChildIpv6AddrInfo). x.rloc16 < 65536) l.lists

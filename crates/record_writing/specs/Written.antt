@@ -5,13 +5,14 @@ use Rattle.std.specs.Prelude.{ℕ, ◌+◌, ◌*◌, Bool, false, List, [], ◌�
 use Rattle.refusal.specs.Sizes.{most_value, most_prefixes, most_has_routes, most_border_routers}
 use Rattle.refusal.specs.Answer.{pick, Answer, refused}
 use Rattle.refusal.specs.Each.{all}
+use Rattle.refusal.specs.Results.{option_of}
 use Rattle.tlv_writing.specs.Encode.{sized}
 use Rattle.network_data.specs.declared.Counts.{Counts}
 use Rattle.route64.specs.declared.Route64.{Route64}
-use Rattle.diag_rows.specs.Rows.{Part, part}
+use Rattle.diag_rows.specs.Rows.{part}
+use Rattle.diag_rows.specs.declared.Part.{Part}
 use Rattle.diag_rows.specs.declared.ChildTableEntry.{ChildTableEntry}
 use Rattle.diag_rows.specs.declared.ChildIpv6AddrInfo.{ChildIpv6AddrInfo}
-use Rattle.diag.specs.Answers.{opt_part}
 use Rattle.diag.specs.declared.NetDiagData.{NetDiagData}
 use Rattle.network_writing.specs.Tables.{routes_asked, borders_asked}
 use Rattle.record_writing.specs.Values.{entries_of}
@@ -31,7 +32,7 @@ short_list x = leb (2 + x.len) most_value
 unfoldable pub parts_short : NetDiagData → Bool
 parts_short r =
     all (passes short_part)
-    (opt_part r.ext_mac_addr ∷ opt_part r.addresses ∷ opt_part r.child_table ∷ opt_part r.channel_pages ∷ opt_part r.type_list ∷ [])
+    (option_of r.ext_mac_addr ∷ option_of r.addresses ∷ option_of r.child_table ∷ option_of r.channel_pages ∷ option_of r.type_list ∷ [])
 
 -- the address lists that the record counts
 abbrev pub lists_of : NetDiagData → Lent → List ChildIpv6AddrInfo
@@ -52,7 +53,7 @@ inside s q = leb (q.start + q.len) (length s)
 unfoldable pub parts_inside : NetDiagData → List ℕ → Bool
 parts_inside r s =
     all (passes (inside s))
-    (opt_part r.ext_mac_addr ∷ opt_part r.addresses ∷ opt_part r.channel_pages ∷ opt_part r.type_list ∷ opt_part r.eui64 ∷ [])
+    (option_of r.ext_mac_addr ∷ option_of r.addresses ∷ option_of r.channel_pages ∷ option_of r.type_list ∷ option_of r.eui64 ∷ [])
 
 abbrev pub list_inside : List ℕ → ChildIpv6AddrInfo → Bool
 list_inside s x = inside s (part x.start x.len)
@@ -80,9 +81,9 @@ children_agree cs q = eqb (length (children_of cs q) * 3) q.len
 unfoldable pub agrees : NetDiagData → Lent → Bool
 agrees r l =
     pick (parts_inside r l.bytes)
-    (pick (passes (λ (q : Part). routes_counted l.route64) (opt_part r.route64))
+    (pick (passes (λ (q : Part). routes_counted l.route64) (option_of r.route64))
     (pick (passes (tables_agree l) (opt_counts r.network_data))
-    (pick (passes (children_agree l.children) (opt_part r.child_table))
+    (pick (passes (children_agree l.children) (option_of r.child_table))
     (pick (enough l.lists r.child_ipv6_addresses) (all (list_inside l.bytes) (lists_of r l)) false) false) false) false) false
 
 -- 13, 12, 15, then 10; 11 is `emit`'s. 15 is `agrees` (what is lent and counted) and `values_fit` (bits, lengths, rules)

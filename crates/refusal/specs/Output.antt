@@ -2,9 +2,6 @@
 -- Assumes nothing.
 use Rattle.std.specs.Prelude.{ℕ, suc, ◌+◌, List, [], ◌∷◌, ◌++◌, length, drop, set, leb, ltb}
 use Rattle.refusal.specs.Answer.{pick, Answer, given, absent, refused}
-use Rattle.refusal.specs.Number.{refusal_answer}
-use Rattle.refusal.specs.declared.Written.{Written}
-use Rattle.refusal.specs.declared.Written.TheVariants as w
 
 -- the answer, which is how many bytes were written, and the output as it is left
 pub record Output : Type 0 where
@@ -13,10 +10,6 @@ pub record Output : Type 0 where
 
 abbrev pub output : Answer ℕ → List ℕ → Output
 output a o = record { answer = a; left = o }
-
-abbrev pub written_answer : Written → Answer ℕ
-written_answer (w.Bytes n) = given n
-written_answer (w.Refused r) = refusal_answer r
 
 -- bs at the start of out, "output bytes past the reported length" as they were; 11, "lent output ... too short for the result", is the last
 -- refusal of every call; and "every lent byte ... stays" where there is a refusal, or nothing to write

@@ -5,7 +5,7 @@ ghost use Rattle.std.specs.Prelude.{◌≡◌, [], ◌∷◌};
 ghost use Rattle.refusal.specs.Sizes.{most_bytes, most_digits, most_entries};
 ghost use Rattle.refusal.specs.Answer.{refused};
 ghost use Rattle.refusal.specs.Number.{fault_number};
-ghost use Rattle.refusal.specs.Output.{written_answer};
+ghost use Rattle.refusal.specs.Results.{answer_of};
 
 // A dataset, payload, change list or bare value has at most so many bytes, and hex text twice as many digits.
 pub const MAX_BYTES: usize = 16384;
@@ -51,20 +51,13 @@ pub struct Refusal {
     pub input: u8,
 }
 
-// The answer of every call that writes into a lent output: how many bytes it wrote at the start, or why none.
-#[derive(Clone, Copy)]
-pub enum Written {
-    Bytes(usize),
-    Refused(Refusal),
-}
-
-// A refusal of a call that writes, at a place of its first input.
-pub fn refuse(fault: Fault, place: usize) -> Written
-    ensures { written_answer result ≡ refused (fault_number fault) place 0 }
+// A refusal at a place of the first input, as the answer of any call.
+pub fn refuse<T>(fault: Fault, place: usize) -> Result<T, Refusal>
+    ensures { answer_of result ≡ refused (fault_number fault) place 0 }
 {
-    Written::Refused(Refusal {
-        fault: fault,
-        place: place,
+    Err(Refusal {
+        fault,
+        place,
         input: 0,
     })
 }

@@ -12,17 +12,19 @@ use Rattle.refusal.specs.Every.{Every, Bytes}
 use Rattle.refusal.specs.Answer.{Answer, given, then_do}
 use Rattle.refusal.specs.Each.{all}
 use Rattle.refusal.specs.Numbered.{nth}
+use Rattle.refusal.specs.Results.{option_of}
 use Rattle.tlv.specs.Entries.{Entry, framing}
 use Rattle.tlv.proofs.Walks.{framing_lies}
 use Rattle.tlv_writing.specs.Encode.{sized}
 use Rattle.network_data.specs.declared.Counts.{Counts}
 use Rattle.route64.specs.Routes as R
-use Rattle.diag_rows.specs.Rows.{Part, child_rows}
+use Rattle.diag_rows.specs.Rows.{child_rows}
+use Rattle.diag_rows.specs.declared.Part.{Part}
 use Rattle.diag_rows.specs.declared.ChildIpv6AddrInfo.{ChildIpv6AddrInfo}
 use Rattle.diag_entries.specs.Parts.{all_of}
 use Rattle.diag_entries.specs.Lists.{address_lists, child_list}
 use Rattle.diag.specs.Diag.{raw}
-use Rattle.diag.specs.Answers.{opt_part, diag_of}
+use Rattle.diag.specs.Answers.{diag_of}
 use Rattle.diag.specs.declared.NetDiagData.{NetDiagData}
 use Rattle.diag_tables.specs.Tables.{decoded}
 use Rattle.diag_tables.specs.Tables as T
@@ -55,11 +57,11 @@ module _ (r : NetDiagData) (l : Lent) (b : Bytes l.bytes) (h : Handed r l) where
   unfolding decoded
   tables = given_map _ _ (λ c f. laid_by l (diag_of s r) _ f.prefixes f.routes f.borders f.are) (opt_counts r.network_data) h.tables
 
-  children : Given (λ (q : Part). children_of l.children q ≡ child_rows (part_bytes s q)) (opt_part r.child_table)
-  children = given_two _ _ _ (λ q w k. children_are s known.small l.children q w k) (opt_part r.child_table) (part_16 r s known) h.children
+  children : Given (λ (q : Part). children_of l.children q ≡ child_rows (part_bytes s q)) (option_of r.child_table)
+  children = given_two _ _ _ (λ q w k. children_are s known.small l.children q w k) (option_of r.child_table) (part_16 r s known) h.children
 
-  router : Given (λ (q : Part). route_used l.route64 ≡ R.route_of (part_bytes s q)) (opt_part r.route64)
-  router = given_two _ _ _ (λ q w k. route_is s known.small l.route64 h.place q w k) (opt_part r.route64) (part_5 r s known) h.route64
+  router : Given (λ (q : Part). route_used l.route64 ≡ R.route_of (part_bytes s q)) (option_of r.route64)
+  router = given_two _ _ _ (λ q w k. route_is s known.small l.route64 h.place q w k) (option_of r.route64) (part_5 r s known) h.route64
 
   list_at : (k : ℕ) → k < length (address_lists es) → then_do (nth l.lists k) (λ (x : ChildIpv6AddrInfo). given (handed s x)) ≡ nth (address_lists es) k
   unfolding child_list
@@ -79,22 +81,22 @@ module _ (r : NetDiagData) (l : Lent) (b : Bytes l.bytes) (h : Handed r l) where
   unfolding values_of values_in reading_of diag_of
   same =
       by_values
-      (said_same s raw (opt_part r.ext_mac_addr))
+      (said_same s raw (option_of r.ext_mac_addr))
       refl
       refl
       refl
       refl
-      (route_same s (route_used l.route64) (opt_part r.route64) router)
+      (route_same s (route_used l.route64) (option_of r.route64) router)
       refl
       (network_same s b l r.network_data (part_7 r s known) tables)
-      (addresses_same s (opt_part r.addresses) (part_8 r s known))
+      (addresses_same s (option_of r.addresses) (part_8 r s known))
       refl
       refl
       refl
-      (children_same s l.children (opt_part r.child_table) children)
-      (said_same s raw (opt_part r.channel_pages))
-      (said_same s raw (opt_part r.type_list))
-      (said_same s raw (opt_part r.eui64))
+      (children_same s l.children (option_of r.child_table) children)
+      (said_same s raw (option_of r.channel_pages))
+      (said_same s raw (option_of r.type_list))
+      (said_same s raw (option_of r.eui64))
       lists.1
 
   -- ---- and none of the tests fails
@@ -102,11 +104,11 @@ module _ (r : NetDiagData) (l : Lent) (b : Bytes l.bytes) (h : Handed r l) where
   unfolding lengths_fit parts_short all
   not_13 =
       rw (
-        part_short s known.small 0 (opt_part r.ext_mac_addr) (part_0 r s known),
-        part_short s known.small 8 (opt_part r.addresses) (part_8 r s known),
-        part_short s known.small 16 (opt_part r.child_table) (part_16 r s known),
-        part_short s known.small 17 (opt_part r.channel_pages) (part_17 r s known),
-        part_short s known.small 18 (opt_part r.type_list) (part_18 r s known),
+        part_short s known.small 0 (option_of r.ext_mac_addr) (part_0 r s known),
+        part_short s known.small 8 (option_of r.addresses) (part_8 r s known),
+        part_short s known.small 16 (option_of r.child_table) (part_16 r s known),
+        part_short s known.small 17 (option_of r.channel_pages) (part_17 r s known),
+        part_short s known.small 18 (option_of r.type_list) (part_18 r s known),
       )
       (lists_short s known.small (lists_of r l) lists.0)
 
@@ -114,11 +116,11 @@ module _ (r : NetDiagData) (l : Lent) (b : Bytes l.bytes) (h : Handed r l) where
   unfolding parts_inside all
   inside =
       rw (
-        part_inside s 0 (opt_part r.ext_mac_addr) (part_0 r s known),
-        part_inside s 8 (opt_part r.addresses) (part_8 r s known),
-        part_inside s 17 (opt_part r.channel_pages) (part_17 r s known),
-        part_inside s 18 (opt_part r.type_list) (part_18 r s known),
-        part_inside s 23 (opt_part r.eui64) (part_23 r s known),
+        part_inside s 0 (option_of r.ext_mac_addr) (part_0 r s known),
+        part_inside s 8 (option_of r.addresses) (part_8 r s known),
+        part_inside s 17 (option_of r.channel_pages) (part_17 r s known),
+        part_inside s 18 (option_of r.type_list) (part_18 r s known),
+        part_inside s 23 (option_of r.eui64) (part_23 r s known),
       )
 
   not_12 : (passes counts_fit (opt_counts r.network_data) ≡ true) × (passes (tables_agree l) (opt_counts r.network_data) ≡ true)
@@ -130,9 +132,9 @@ module _ (r : NetDiagData) (l : Lent) (b : Bytes l.bytes) (h : Handed r l) where
   not_15 =
       rw (
         inside,
-        routers_counted s known.small l.route64 h.place (opt_part r.route64) (part_5 r s known) h.route64,
+        routers_counted s known.small l.route64 h.place (option_of r.route64) (part_5 r s known) h.route64,
         not_12.1,
-        children_agree_lem s l.children (opt_part r.child_table) (part_16 r s known) children,
+        children_agree_lem s l.children (option_of r.child_table) (part_16 r s known) children,
         le-leb r.child_ipv6_addresses (length l.lists) (omega (arith, count r s known, handed_most (handed s) (address_lists es) l.lists list_at)),
       )
       (lists_inside s (lists_of r l) lists.0)

@@ -7,6 +7,7 @@ use Prim.Native.Nat.{ℕ, ◌+◌, ◌-◌, ◌*◌, ◌%◌, ◌≤◌}
 use native.Mathlib.Omega.{arith}
 use lib.ListN.{length, replicate, length-append, length-map}
 use borrow.Author.Tests.{eqb-true, eq-eqb, le-leb}
+use Rattle.std.specs.Prelude.{Option, Some, None}
 use Rattle.refusal.specs.Sizes.{most_bytes, most_value, most_prefixes, most_has_routes, most_border_routers}
 use Rattle.refusal.specs.Every.{Every, Bytes}
 use Rattle.refusal.specs.Answer.{Answer, given, absent, refused, on_given}
@@ -20,14 +21,14 @@ use Rattle.route64.specs.Routes.{table, routes, laid_out}
 use Rattle.route64.specs.Routes as R
 use Rattle.route64.specs.declared.RouteDataEntry.{RouteDataEntry}
 use Rattle.route64.specs.declared.Route64.{Route64}
-use Rattle.diag_rows.specs.Rows.{Part, part, child_rows}
+use Rattle.diag_rows.specs.Rows.{part, child_rows}
+use Rattle.diag_rows.specs.declared.Part.{Part}
 use Rattle.diag_rows.specs.declared.ChildTableEntry.{ChildTableEntry}
 use Rattle.diag_rows.specs.declared.ChildIpv6AddrInfo.{ChildIpv6AddrInfo}
 use Rattle.diag_rows.proofs.Within.{child_count}
 use Rattle.diag_entries.specs.Answers.{bytes_at}
 use Rattle.diag.specs.Answers.{opt_network_data}
-use Rattle.diag.specs.declared.OptNetworkData.{OptNetworkData}
-use Rattle.diag.specs.declared.OptNetworkData.TheVariants as n
+use Rattle.diag.specs.declared.NetworkDataPart.{NetworkDataPart}
 use Rattle.diag_tables.specs.Tables.{prefixes_in}
 use Rattle.network_writing.specs.Tables.{routes_asked, borders_asked}
 use Rattle.network_writing.proofs.Round.{Small}
@@ -72,12 +73,12 @@ module _ (s : List ℕ) where
 
     -- ---- Route64
     pub routers_counted : (t : Route64) (place : ℕ) (a : Answer Part) → Given (Sits s 5) a
-        → Given (λ (q : Part). t ≡ (laid_out (on_given R.route_of (value_of 5 place (part_bytes s q)))).route) a → passes (λ (q : Part). routes_counted t) a ≡ true
+        → Given (λ (q : Part). t ≡ laid_out (on_given R.route_of (value_of 5 place (part_bytes s q)))) a → passes (λ (q : Part). routes_counted t) a ≡ true
     unfolding passes laid_out routes
     routers_counted t place (given q) w h =
         let v = part_bytes s q in
         let read = value_read s small 5 place q refl w in
-        ap routes_counted (h ∙ ap (λ (a : Answer (List ℕ)). (laid_out (on_given R.route_of a)).route) read)
+        ap routes_counted (h ∙ ap (λ (a : Answer (List ℕ)). laid_out (on_given R.route_of a)) read)
         ∙ le-leb (length (R.route_rows v)) _ (table_most (R.route_rows v))
     routers_counted t place absent w h = refl
     routers_counted t place (refused n p i) w h = refl
@@ -117,10 +118,10 @@ module _ (s : List ℕ) where
         eq-eqb _ c.border_routers (ap borders_asked u.prefixes ∙ filled_borders ps ∙ sym b),
       )
 
-  pub network_agrees : Bytes s → (l : Lent) (y : OptNetworkData) → Network s y → Given (λ (c : Counts). Laid (prefixes_in (opt_network_data s y)) l) (opt_counts y)
+  pub network_agrees : Bytes s → (l : Lent) (y : Option NetworkDataPart) → Network s y → Given (λ (c : Counts). Laid (prefixes_in (opt_network_data s y)) l) (opt_counts y)
       → (passes counts_fit (opt_counts y) ≡ true) × (passes (tables_agree l) (opt_counts y) ≡ true)
   unfolding passes prefixes_in
-  network_agrees b l (n.Some x) k g =
+  network_agrees b l (Some x) k g =
       let ps = N.contents (bytes_at s x.start x.len) in
       (counts_fit_lem x.counts ps k.counts (good_network (bytes_at s x.start x.len) (good s 7 (part x.start x.len) b k.plain)).small, tables_agree_lem l x.counts ps k.counts g)
-  network_agrees b l n.None k g = (refl, refl)
+  network_agrees b l None k g = (refl, refl)

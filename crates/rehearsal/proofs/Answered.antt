@@ -9,26 +9,26 @@ use lib.ListN.{length, take}
 use lib.Seq.{length-take-le}
 use lib.Dec.{eqb}
 use borrow.Author.Tests.{eqb-true, le-leb}
+use Rattle.std.specs.Prelude.{Option, None, Some}
 use Rattle.refusal.specs.Sizes.{most_bytes}
 use Rattle.refusal.specs.Every.{Every}
 use Rattle.refusal.specs.Answer.{Answer, given, absent, refused, then_do, on_given}
 use Rattle.refusal.specs.Numbered.{nth}
+use Rattle.refusal.specs.Results.{option_of}
 use Rattle.diag_rules.specs.Rule.{value_of}
 use Rattle.network_data.specs.Decode.{Prefix}
 use Rattle.network_data.specs.Decode as N
 use Rattle.network_data.specs.declared.Counts.{Counts}
 use Rattle.network_plans.specs.Planned.{room_for}
-use Rattle.route64.specs.Routes.{Route, routes, routed, laid_out}
+use Rattle.route64.specs.Routes.{Route, routes}
 use Rattle.route64.specs.Routes as R
-use Rattle.diag_rows.specs.Rows.{Part, addresses}
+use Rattle.diag_rows.specs.Rows.{addresses}
+use Rattle.diag_rows.specs.declared.Part.{Part}
 use Rattle.diag_entries.specs.Parts.{Said}
 use Rattle.diag_entries.specs.Answers.{bytes_at}
 use Rattle.diag.specs.Diag.{NetworkDataValue}
-use Rattle.diag.specs.Answers.{opt_part, opt_network_data}
-use Rattle.diag.specs.declared.OptPart.{OptPart}
-use Rattle.diag.specs.declared.OptPart.TheVariants as p
-use Rattle.diag.specs.declared.OptNetworkData.{OptNetworkData}
-use Rattle.diag.specs.declared.OptNetworkData.TheVariants as n
+use Rattle.diag.specs.declared.NetworkDataPart.{NetworkDataPart}
+use Rattle.diag.specs.Answers.{opt_network_data}
 use Rattle.diag_tables.specs.Tables.{prefixes_in}
 use Rattle.network_writing.proofs.Agree.{all_routes_lem, all_borders_lem, as_many}
 use Rattle.value_writing.specs.Fits.{whole_addresses}
@@ -62,15 +62,15 @@ counts_are l c k =
 abbrev pub prefixes_said : Answer (Said NetworkDataValue) → Answer (List Prefix)
 prefixes_said x = on_given (λ (y : NetworkDataValue). y.prefixes) (saying x)
 
-pub network_back : (bs : List ℕ) (l : Lent) (y z : OptNetworkData) → Network bs y → passes (tables_agree l) (opt_counts z) ≡ true
+pub network_back : (bs : List ℕ) (l : Lent) (y z : Option NetworkDataPart) → Network bs y → passes (tables_agree l) (opt_counts z) ≡ true
     → prefixes_said (opt_network_data bs y) ≡ or_absent (on_given (network_of l) (opt_counts z)) → opt_counts y ≡ opt_counts z
 unfolding passes
-network_back bs l (n.Some y) (n.Some z) k t h =
+network_back bs l (Some y) (Some z) k t h =
     let same : N.contents (bytes_at bs y.start y.len) ≡ network_of l z.counts = cc in
     ap given (k.counts ∙ ap N.counts_of same ∙ counts_are l z.counts (counted l z.counts t))
-network_back bs l (n.Some y) n.None k t h = absurd (let z : ◌≡◌ {A = ℕ} 0 1 = cc in omega arith)
-network_back bs l n.None (n.Some z) k t h = absurd (let z : ◌≡◌ {A = ℕ} 0 1 = cc in omega arith)
-network_back bs l n.None n.None k t h = refl
+network_back bs l (Some y) None k t h = absurd (let z : ◌≡◌ {A = ℕ} 0 1 = cc in omega arith)
+network_back bs l None (Some z) k t h = absurd (let z : ◌≡◌ {A = ℕ} 0 1 = cc in omega arith)
+network_back bs l None None k t h = refl
 
 pub prefixes_in_lem : (x : Answer (Said NetworkDataValue)) (ps : List Prefix) → prefixes_said x ≡ given ps → prefixes_in x ≡ ps
 unfolding prefixes_in
@@ -114,12 +114,11 @@ constant x y (refused m p i) e = absurd (let z : ◌≡◌ {A = ℕ} 0 1 = cc in
 
 module _ (bs : List ℕ) (small : length bs ≤ most_bytes) where
   pub router_by : (x : Route) (a b : Answer Part) → Given (Sits bs 5) a → on_given (λ (q : Part). R.route_of (part_bytes bs q)) a ≡ on_given (λ (q : Part). x) b
-      → Given (λ (q : Part). (place : ℕ) → laid_out (on_given R.route_of (value_of 5 place (part_bytes bs q))) ≡ routed (given tt) (routes x)) a
-  unfolding laid_out
+      → Given (λ (q : Part). (place : ℕ) → on_given routes (on_given R.route_of (value_of 5 place (part_bytes bs q))) ≡ given (routes x)) a
   router_by x (given q) b w h =
       λ place.
-      ap (λ (v : Answer (List ℕ)). laid_out (on_given R.route_of v)) (value_read bs small 5 place q refl w)
-      ∙ ap (λ (y : Route). routed (given tt) (routes y)) (constant x (R.route_of (part_bytes bs q)) b h)
+      ap (λ (v : Answer (List ℕ)). on_given routes (on_given R.route_of v)) (value_read bs small 5 place q refl w)
+      ∙ ap (λ (y : Route). given (routes y)) (constant x (R.route_of (part_bytes bs q)) b h)
   router_by x absent b w h = tt
   router_by x (refused m p i) b w h = tt
 
@@ -133,8 +132,8 @@ module _ (bs : List ℕ) (small : length bs ≤ most_bytes) where
   rows_by ty f (refused m p i) b h w e = tt
 
 -- "whole 16-byte addresses": their bytes are known by the addresses
-pub addresses_or : (s : List ℕ) (x : OptPart) → passes whole_addresses (on_given (part_bytes s) (opt_part x)) ≡ true
-    → on_given flat (or_absent (on_given addresses (on_given (part_bytes s) (opt_part x)))) ≡ on_given (part_bytes s) (opt_part x)
+pub addresses_or : (s : List ℕ) (x : Option Part) → passes whole_addresses (on_given (part_bytes s) (option_of x)) ≡ true
+    → on_given flat (or_absent (on_given addresses (on_given (part_bytes s) (option_of x)))) ≡ on_given (part_bytes s) (option_of x)
 unfolding passes
-addresses_or s (p.Some b m) h = ap given (addresses_back (bytes_at s b m) (eqb-true (length (bytes_at s b m) % 16) 0 h))
-addresses_or s p.None h = refl
+addresses_or s (Some q) h = ap given (addresses_back (part_bytes s q) (eqb-true (length (part_bytes s q) % 16) 0 h))
+addresses_or s None h = refl

@@ -9,9 +9,12 @@ use lib.ListN.{length, take, length-map}
 use lib.Seq.{length-take-le}
 use lib.Dec.{eqb}
 use borrow.Author.Tests.{eqb-true}
+use Rattle.std.specs.Prelude.{Result, Option, Ok, Some, None, Err}
 use Rattle.refusal.specs.Every.{Every}
 use Rattle.refusal.specs.Answer.{Answer, given, absent, then_do, on_given}
 use Rattle.refusal.specs.Numbered.{nth}
+use Rattle.refusal.specs.Results.{found_of, option_of}
+use Rattle.refusal.specs.declared.Refusal.{Refusal}
 use Rattle.laws.proofs.Bits.{both, all_every}
 use Rattle.laws.proofs.Answers.{gives, on_on}
 use Rattle.tlv.specs.Entries.{Entry, framing}
@@ -27,18 +30,15 @@ use Rattle.network_data.specs.declared.BorderRouterEntry.{BorderRouterEntry}
 use Rattle.network_plans.specs.Planned.{room_for}
 use Rattle.network_plans.specs.Tables.{over}
 use Rattle.route64.specs.Routes as R
-use Rattle.diag_rows.specs.Rows.{Part, child_rows, addresses}
+use Rattle.diag_rows.specs.Rows.{child_rows, addresses}
+use Rattle.diag_rows.specs.declared.Part.{Part}
 use Rattle.diag_rows.specs.declared.ChildIpv6AddrInfo.{ChildIpv6AddrInfo}
-use Rattle.diag_rows.specs.declared.ReadAddressList.{ReadAddressList}
-use Rattle.diag_rows.specs.declared.ReadAddressList.TheVariants as a
 use Rattle.diag_entries.specs.Parts.{all_of}
 use Rattle.diag_entries.specs.Answers.{bytes_at}
 use Rattle.diag_entries.specs.Lists.{AddressList, address_list, address_lists, child_list}
-use Rattle.child_lists.specs.Answers.{child_list_answer}
+use Rattle.child_lists.specs.Answers.{list_paper}
 use Rattle.diag.specs.Diag.{Diag, raw, diag, decode}
-use Rattle.diag.specs.Answers.{opt_part, opt_network_data, diag_of, decoded_answer}
-use Rattle.diag.specs.declared.Decoded.{Decoded}
-use Rattle.diag.specs.declared.Decoded.TheVariants as d
+use Rattle.diag.specs.Answers.{opt_network_data, diag_of, decoded_answer}
 use Rattle.diag.specs.declared.NetDiagData.{NetDiagData}
 use Rattle.diag_tables.specs.Tables.{roomed, answered, outcome, decoded}
 use Rattle.diag_tables.specs.Tables as T
@@ -58,7 +58,7 @@ use Rattle.record_writing.proofs.Back as B
 use Rattle.rehearsal.specs.Back.{Same, list_answer, TablesBack, Rows, Back}
 use Rattle.rehearsal.proofs.Sits.{Kept, lists_sit}
 use Rattle.rehearsal.proofs.Same.{said_same, addresses_same, handed, found}
-use Rattle.rehearsal.proofs.Settled.{same_8, same_16, same_32, same_mode, same_connectivity, same_leader, same_counters, or_part}
+use Rattle.rehearsal.proofs.Settled.{same_option, same_connectivity, or_part}
 use Rattle.rehearsal.proofs.Answered.{counts_are, prefixes_said, network_back, prefixes_in_lem, none_in, has_room, every_nth, never_refused, absent_on, router_by, rows_by, addresses_or}
 use Rattle.rehearsal.proofs.Read.{Read, read, part_5, part_7, part_8, part_16, count, reads}
 
@@ -99,24 +99,24 @@ module _ (r : NetDiagData) (l : Lent) (bs : List ℕ) (e : written r l ≡ given
     same : Same r l bs q
     unfolding reading_of says values_of diag_of
     same = record {
-      ext_mac_addr = said_same bs raw (opt_part q.ext_mac_addr) ∙ ap (λ (x : Reading). x.ext_mac_addr) reading_is ∙ or_part (part_bytes l.bytes) r.ext_mac_addr;
-      mac_addr = same_16 q.mac_addr r.mac_addr (ap (λ (x : Reading). x.mac_addr) reading_is);
-      mode = same_mode q.mode r.mode (ap (λ (x : Reading). x.mode) reading_is);
-      timeout = same_32 q.timeout r.timeout (ap (λ (x : Reading). x.timeout) reading_is);
+      ext_mac_addr = said_same bs raw (option_of q.ext_mac_addr) ∙ ap (λ (x : Reading). x.ext_mac_addr) reading_is ∙ or_part (part_bytes l.bytes) r.ext_mac_addr;
+      mac_addr = same_option q.mac_addr r.mac_addr (ap (λ (x : Reading). x.mac_addr) reading_is);
+      mode = same_option q.mode r.mode (ap (λ (x : Reading). x.mode) reading_is);
+      timeout = same_option q.timeout r.timeout (ap (λ (x : Reading). x.timeout) reading_is);
       connectivity = same_connectivity q.connectivity r.connectivity (ap (λ (x : Reading). x.connectivity) reading_is);
-      route64 = said_same bs R.route_of (opt_part q.route64) ∙ ap (λ (x : Reading). x.route64) reading_is ∙ or_part (λ (x : Part). route_used l.route64) r.route64;
-      leader_data = same_leader q.leader_data r.leader_data (ap (λ (x : Reading). x.leader_data) reading_is);
+      route64 = said_same bs R.route_of (option_of q.route64) ∙ ap (λ (x : Reading). x.route64) reading_is ∙ or_part (λ (x : Part). route_used l.route64) r.route64;
+      leader_data = same_option q.leader_data r.leader_data (ap (λ (x : Reading). x.leader_data) reading_is);
       network_data = network_back bs l q.network_data r.network_data (part_7 q bs here) known.agreed.tables prefixes_are;
       addresses =
-          addresses_same bs (opt_part q.addresses) (part_8 q bs here)
+          addresses_same bs (option_of q.addresses) (part_8 q bs here)
           ∙ ap (λ (x : Reading). on_given flat x.addresses) reading_is ∙ addresses_or l.bytes r.addresses fits.addresses;
-      mac_counters = same_counters q.mac_counters r.mac_counters (ap (λ (x : Reading). x.mac_counters) reading_is);
-      battery_level = same_8 q.battery_level r.battery_level (ap (λ (x : Reading). x.battery_level) reading_is);
-      supply_voltage = same_16 q.supply_voltage r.supply_voltage (ap (λ (x : Reading). x.supply_voltage) reading_is);
-      child_table = said_same bs child_rows (opt_part q.child_table) ∙ ap (λ (x : Reading). x.child_table) reading_is ∙ or_part (children_of l.children) r.child_table;
-      channel_pages = said_same bs raw (opt_part q.channel_pages) ∙ ap (λ (x : Reading). x.channel_pages) reading_is ∙ or_part (part_bytes l.bytes) r.channel_pages;
-      type_list = said_same bs raw (opt_part q.type_list) ∙ ap (λ (x : Reading). x.type_list) reading_is ∙ or_part (part_bytes l.bytes) r.type_list;
-      eui64 = said_same bs raw (opt_part q.eui64) ∙ ap (λ (x : Reading). x.eui64) reading_is ∙ or_part (part_bytes l.bytes) r.eui64;
+      mac_counters = same_option q.mac_counters r.mac_counters (ap (λ (x : Reading). x.mac_counters) reading_is);
+      battery_level = same_option q.battery_level r.battery_level (ap (λ (x : Reading). x.battery_level) reading_is);
+      supply_voltage = same_option q.supply_voltage r.supply_voltage (ap (λ (x : Reading). x.supply_voltage) reading_is);
+      child_table = said_same bs child_rows (option_of q.child_table) ∙ ap (λ (x : Reading). x.child_table) reading_is ∙ or_part (children_of l.children) r.child_table;
+      channel_pages = said_same bs raw (option_of q.channel_pages) ∙ ap (λ (x : Reading). x.channel_pages) reading_is ∙ or_part (part_bytes l.bytes) r.channel_pages;
+      type_list = said_same bs raw (option_of q.type_list) ∙ ap (λ (x : Reading). x.type_list) reading_is ∙ or_part (part_bytes l.bytes) r.type_list;
+      eui64 = said_same bs raw (option_of q.eui64) ∙ ap (λ (x : Reading). x.eui64) reading_is ∙ or_part (part_bytes l.bytes) r.eui64;
       lists =
           count q bs here ∙ sym (length-map lists unplaced) ∙ ap length lists_are ∙ length-map (map (list_of l.bytes) (lists_of r l)) listed
           ∙ length-map (lists_of r l) (list_of l.bytes) ∙ length-take-le r.child_ipv6_addresses l.lists known.agreed.count;
@@ -184,26 +184,26 @@ module _ (r : NetDiagData) (l : Lent) (bs : List ℕ) (e : written r l ≡ given
           (sym (addresses_back w.one.addresses whole) ∙ bytes ∙ addresses_back (bytes_at bs x.start x.len) f.whole) in
           ap given (sym same) ∙ sym w.is
 
-      list : (x : ReadAddressList) → child_list_answer bs x ≡ child_list k bs → list_answer bs x ≡ on_given (list_of l.bytes) (nth (lists_of r l) k)
-      list (a.Value x) at = one_list x (at ∙ at_is)
-      list a.Absent at = absent_on listed (on_given (list_of l.bytes) (nth (lists_of r l) k)) (ap (on_given unplaced) (at ∙ at_is) ∙ said_at)
-      list (a.Refused x) at = absurd (never_refused lists k _ _ _ (at ∙ at_is))
+      list : (x : Result (Option ChildIpv6AddrInfo) Refusal) → on_given (list_paper bs) (found_of x) ≡ child_list k bs → list_answer bs x ≡ on_given (list_of l.bytes) (nth (lists_of r l) k)
+      list (Ok (Some x)) at = one_list x (at ∙ at_is)
+      list (Ok None) at = absent_on listed (on_given (list_of l.bytes) (nth (lists_of r l) k)) (ap (on_given unplaced) (at ∙ at_is) ∙ said_at)
+      list (Err x) at = absurd (never_refused lists k _ _ _ (at ∙ at_is))
 
     rows : Rows r l bs q
     rows = record {
       tables = tables;
       untouched = untouched;
-      router = router_by bs here.small (route_used l.route64) (opt_part q.route64) (opt_part r.route64) (part_5 q bs here) same.route64;
-      child = rows_by bs here.small 16 child_rows (opt_part q.child_table) (on_given (children_of l.children) (opt_part r.child_table)) refl (part_16 q bs here) same.child_table;
+      router = router_by bs here.small (route_used l.route64) (option_of q.route64) (option_of r.route64) (part_5 q bs here) same.route64;
+      child = rows_by bs here.small 16 child_rows (option_of q.child_table) (on_given (children_of l.children) (option_of r.child_table)) refl (part_16 q bs here) same.child_table;
       address =
-          rows_by bs here.small 8 addresses (opt_part q.addresses) (on_given (λ (x : Part). addresses (part_bytes l.bytes x)) (opt_part r.addresses)) refl (part_8 q bs here)
-          (sym (on_on addresses (part_bytes bs) (opt_part q.addresses)) ∙ ap (on_given addresses) same.addresses ∙ on_on addresses (part_bytes l.bytes) (opt_part r.addresses));
+          rows_by bs here.small 8 addresses (option_of q.addresses) (on_given (λ (x : Part). addresses (part_bytes l.bytes x)) (option_of r.addresses)) refl (part_8 q bs here)
+          (sym (on_on addresses (part_bytes bs) (option_of q.addresses)) ∙ ap (on_given addresses) same.addresses ∙ on_on addresses (part_bytes l.bytes) (option_of r.addresses));
       list = list;
     }
 
   -- whatever `NetDiagData::decode` answers on what was written, it is the record that was written
-  pub back : (x : Decoded) → decoded_answer bs x ≡ decode bs → Back r l bs x
+  pub back : (x : Result NetDiagData Refusal) → decoded_answer bs x ≡ decode bs → Back r l bs x
   unfolding decode
-  back (d.Data q) h = (same q h, rows q h)
-  back (d.Refused x) h =
+  back (Ok q) h = (same q h, rows q h)
+  back (Err x) h =
       absurd (let f = (B.written_found r l bs e m).passing in let told = h ∙ ap (on_given diag) f in let z : ◌≡◌ {A = ℕ} 0 1 = cc in omega arith)

@@ -1,4 +1,4 @@
--- The two theorems as a caller of `diag_writing::write` has them, whose promise is `output (written_answer answer) left ≡ emit (written r l) out`:
+-- The two theorems as a caller of `diag_writing::write` has them, whose promise is `output (answer_of answer) left ≡ emit (written r l) out`:
 -- "Reading what was written gives the record back" (document 02, One) is `write_reads`; a record that was read is refused by 11 alone: `write_again`.
 -- Assumes nothing.
 use mathlib.Core.Path.{◌≡◌, sym, ap, ◌∙◌}
@@ -6,15 +6,16 @@ use mathlib.Core.List.{List, map}
 use Prim.Native.Nat.{ℕ}
 use native.Mathlib.Omega.{arith}
 use lib.ListN.{take}
+use Rattle.std.specs.Prelude.{Result}
 use Rattle.refusal.specs.Every.{Bytes}
 use Rattle.refusal.specs.Answer.{Answer, given, refused}
 use Rattle.refusal.specs.Output.{output, emit}
+use Rattle.refusal.specs.declared.Refusal.{Refusal}
 use Rattle.laws.proofs.Callers.{gave_front, Refuses, itself, no_room, refuses}
 use Rattle.pair_rule.specs.Codes.{code_of}
 use Rattle.pairing.specs.Payload.{codes}
 use Rattle.diag.specs.Diag.{decode}
 use Rattle.diag.specs.Answers.{decoded_answer}
-use Rattle.diag.specs.declared.Decoded.{Decoded}
 use Rattle.diag.specs.declared.NetDiagData.{NetDiagData}
 use Rattle.record_writing.specs.Reading.{reading}
 use Rattle.record_writing.specs.Form.{Formed}
@@ -42,7 +43,7 @@ module _ (r : NetDiagData) (l : Lent) (out left : List ℕ) where
     pub write_codes : Machine r l → codes (take n left) ≡ given (map code_of (pairings_of (values_of r l)))
     write_codes m = written_codes r l (take n left) front m
 
-    pub write_reads : Machine r l → (x : Decoded) → decoded_answer (take n left) x ≡ decode (take n left) → Back r l (take n left) x
+    pub write_reads : Machine r l → (x : Result NetDiagData Refusal) → decoded_answer (take n left) x ≡ decode (take n left) → Back r l (take n left) x
     write_reads m x h = back r l (take n left) front m x h
 
   -- what was read is written, if there is room

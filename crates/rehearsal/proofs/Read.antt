@@ -8,6 +8,7 @@ use lib.ListN.{length}
 use Rattle.refusal.specs.Sizes.{most_bytes}
 use Rattle.refusal.specs.Every.{Every}
 use Rattle.refusal.specs.Answer.{Answer, given, absent, refused, then_do, on_given}
+use Rattle.refusal.specs.Results.{option_of}
 use Rattle.laws.proofs.Answers.{gives}
 use Rattle.tlv.specs.Entries.{Entry, framing}
 use Rattle.tlv.specs.Limits.{framed}
@@ -18,7 +19,7 @@ use Rattle.diag_entries.specs.Checked.{decoding, checked}
 use Rattle.diag_entries.specs.Lists.{address_lists}
 use Rattle.diag_entries.proofs.Checks.{Decodes, checked_given}
 use Rattle.diag.specs.Diag.{raw, Diag, diag, decode}
-use Rattle.diag.specs.Answers.{opt_part, diag_of}
+use Rattle.diag.specs.Answers.{diag_of}
 use Rattle.diag.specs.declared.NetDiagData.{NetDiagData}
 use Rattle.record_writing.specs.Typed.{Given}
 use Rattle.record_writing.specs.Reading.{reading_of, reading}
@@ -45,33 +46,33 @@ read r s e =
     record { small = small_by s (framed 0 s) g.one refl g.is; passes = c.0; decodes = c.1; says = sym g.so ∙ ap diag same }
 
 module _ (r : NetDiagData) (s : List ℕ) (known : Read r s) where
-  pub part_0 : Given (Sits s 0) (opt_part r.ext_mac_addr)
+  pub part_0 : Given (Sits s 0) (option_of r.ext_mac_addr)
   unfolding diag_of diag
-  part_0 = sits s known.decodes 0 raw (opt_part r.ext_mac_addr) (ap (λ (d : Diag). d.ext_mac_addr) known.says)
+  part_0 = sits s known.decodes 0 raw (option_of r.ext_mac_addr) (ap (λ (d : Diag). d.ext_mac_addr) known.says)
 
-  pub part_5 : Given (Sits s 5) (opt_part r.route64)
+  pub part_5 : Given (Sits s 5) (option_of r.route64)
   unfolding diag_of diag
-  part_5 = sits s known.decodes 5 R.route_of (opt_part r.route64) (ap (λ (d : Diag). d.route64) known.says)
+  part_5 = sits s known.decodes 5 R.route_of (option_of r.route64) (ap (λ (d : Diag). d.route64) known.says)
 
-  pub part_8 : Given (Sits s 8) (opt_part r.addresses)
+  pub part_8 : Given (Sits s 8) (option_of r.addresses)
   unfolding diag_of diag
-  part_8 = sits s known.decodes 8 addresses (opt_part r.addresses) (ap (λ (d : Diag). d.addresses) known.says)
+  part_8 = sits s known.decodes 8 addresses (option_of r.addresses) (ap (λ (d : Diag). d.addresses) known.says)
 
-  pub part_16 : Given (Sits s 16) (opt_part r.child_table)
+  pub part_16 : Given (Sits s 16) (option_of r.child_table)
   unfolding diag_of diag
-  part_16 = sits s known.decodes 16 child_rows (opt_part r.child_table) (ap (λ (d : Diag). d.child_table) known.says)
+  part_16 = sits s known.decodes 16 child_rows (option_of r.child_table) (ap (λ (d : Diag). d.child_table) known.says)
 
-  pub part_17 : Given (Sits s 17) (opt_part r.channel_pages)
+  pub part_17 : Given (Sits s 17) (option_of r.channel_pages)
   unfolding diag_of diag
-  part_17 = sits s known.decodes 17 raw (opt_part r.channel_pages) (ap (λ (d : Diag). d.channel_pages) known.says)
+  part_17 = sits s known.decodes 17 raw (option_of r.channel_pages) (ap (λ (d : Diag). d.channel_pages) known.says)
 
-  pub part_18 : Given (Sits s 18) (opt_part r.type_list)
+  pub part_18 : Given (Sits s 18) (option_of r.type_list)
   unfolding diag_of diag
-  part_18 = sits s known.decodes 18 raw (opt_part r.type_list) (ap (λ (d : Diag). d.type_list) known.says)
+  part_18 = sits s known.decodes 18 raw (option_of r.type_list) (ap (λ (d : Diag). d.type_list) known.says)
 
-  pub part_23 : Given (Sits s 23) (opt_part r.eui64)
+  pub part_23 : Given (Sits s 23) (option_of r.eui64)
   unfolding diag_of diag
-  part_23 = sits s known.decodes 23 raw (opt_part r.eui64) (ap (λ (d : Diag). d.eui64) known.says)
+  part_23 = sits s known.decodes 23 raw (option_of r.eui64) (ap (λ (d : Diag). d.eui64) known.says)
 
   pub part_7 : Network s r.network_data
   unfolding diag_of diag

@@ -9,6 +9,7 @@ use lib.ListN.{length, take, drop, length-append, length-map}
 use lib.Seq.{take-append_seam}
 use lib.Dec.{eqb, leb}
 use borrow.Author.Tests.{eqb-true, leb-true, le-ltb}
+use Rattle.std.specs.Prelude.{Option, Some, None}
 use Rattle.refusal.specs.Sizes.{most_bytes}
 use Rattle.refusal.specs.Every.{Every, Bytes}
 use Rattle.refusal.specs.Answer.{Answer, given, absent, refused, then_do, on_given}
@@ -30,16 +31,16 @@ use Rattle.route64.specs.Routes as R
 use Rattle.diag_values.specs.declared.ModeData.{ModeData}
 use Rattle.diag_values.specs.declared.LeaderData.{LeaderData}
 use Rattle.diag_values.specs.declared.MacCounters.{MacCounters}
-use Rattle.diag_rows.specs.Rows.{Part, part, child_rows, addresses}
+use Rattle.diag_rows.specs.Rows.{part, child_rows, addresses}
+use Rattle.diag_rows.specs.declared.Part.{Part}
 use Rattle.diag_rows.specs.declared.ChildTableEntry.{ChildTableEntry}
 use Rattle.diag_rows.specs.declared.ChildIpv6AddrInfo.{ChildIpv6AddrInfo}
 use Rattle.diag_rows.proofs.Within.{child_count}
 use Rattle.diag_entries.specs.Answers.{bytes_at, said_at}
 use Rattle.diag_entries.specs.Lists.{AddressList, address_list}
 use Rattle.diag.specs.Diag.{NetworkDataValue, Diag}
+use Rattle.diag.specs.declared.NetworkDataPart.{NetworkDataPart}
 use Rattle.diag.specs.Answers.{opt_network_data}
-use Rattle.diag.specs.declared.OptNetworkData.{OptNetworkData}
-use Rattle.diag.specs.declared.OptNetworkData.TheVariants as n
 use Rattle.diag_tables.specs.Tables.{outcome, prefixes_in}
 use Rattle.diag_tables.specs.Tables as T
 use Rattle.network_writing.proofs.Filled.{filled_back}
@@ -188,14 +189,14 @@ module _ (s : List ℕ) where
   route_same x absent g = refl
   route_same x (refused n p i) g = refl
 
-  pub network_same : Bytes s → (l : Lent) (y : OptNetworkData) → Network s y → Given (λ (c : Counts). Laid (prefixes_in (opt_network_data s y)) l) (opt_counts y)
+  pub network_same : Bytes s → (l : Lent) (y : Option NetworkDataPart) → Network s y → Given (λ (c : Counts). Laid (prefixes_in (opt_network_data s y)) l) (opt_counts y)
       → on_given (network_of l) (opt_counts y) ≡ on_given (λ (x : NetworkDataValue). x.prefixes) (saying (opt_network_data s y))
   unfolding prefixes_in
-  network_same b l (n.Some x) k g =
+  network_same b l (Some x) k g =
       let ps = N.contents (bytes_at s x.start x.len) in
       let u = used ps l x.counts g k.counts in
       ap given (rw (u.prefixes, u.routes, u.borders) (filled_back ps (good_network (bytes_at s x.start x.len) (good s 7 (part x.start x.len) b k.plain)).fits))
-  network_same b l n.None k g = refl
+  network_same b l None k g = refl
 
   -- ---- the address lists, as `child_list` hands them out
   abbrev pub handed : ChildIpv6AddrInfo → AddressList
@@ -250,11 +251,11 @@ module _ (s : List ℕ) where
         ap (λ (n : ℕ). take n cs) (sym many)
         ∙ rows_first (child_rows v) cs (λ k l. h k (omega (arith, l)) ∙ ap (λ (a : Answer (List ℕ)). then_do a (λ (v : List ℕ). nth (child_rows v) k)) read)
 
-    pub route_is : (t : _) (place : ℕ) (q : Part) → Sits s 5 q → t ≡ (laid_out (on_given R.route_of (value_of 5 place (part_bytes s q)))).route
+    pub route_is : (t : _) (place : ℕ) (q : Part) → Sits s 5 q → t ≡ laid_out (on_given R.route_of (value_of 5 place (part_bytes s q)))
         → route_used t ≡ R.route_of (part_bytes s q)
     unfolding laid_out routes table
     route_is t place q w h =
         let v = part_bytes s q in
         let read = value_read 5 place q refl w in
-        ap route_used (h ∙ ap (λ (a : Answer (List ℕ)). (laid_out (on_given R.route_of a)).route) read)
+        ap route_used (h ∙ ap (λ (a : Answer (List ℕ)). laid_out (on_given R.route_of a)) read)
         ∙ ap (λ (l : List _). record { sequence = (R.route_of v).sequence; mask = (R.route_of v).mask; rows = l }) (take-append_seam (R.route_of v).rows _)

@@ -8,6 +8,7 @@ use native.Mathlib.Omega.{arith}
 use lib.ListN.{length, drop}
 use lib.Dec.{eqb}
 use borrow.Author.Tests.{eqb-true}
+use Rattle.std.specs.Prelude.{Option, Some, None}
 use Rattle.refusal.specs.Every.{Every, Bytes}
 use Rattle.refusal.specs.Answer.{Answer, given, absent, refused, on_given}
 use Rattle.laws.proofs.Tests.{pick_all}
@@ -18,16 +19,16 @@ use Rattle.network_data.specs.Decode as N
 use Rattle.network_data.specs.declared.Counts.{Counts}
 use Rattle.network_data.specs.Rules.{counts}
 use Rattle.diag_rules.specs.Rule.{keeps_rule}
-use Rattle.diag_rows.specs.Rows.{Part, part}
+use Rattle.diag_rows.specs.Rows.{part}
+use Rattle.diag_rows.specs.declared.Part.{Part}
 use Rattle.diag_entries.specs.Parts.{last, all_of, Said, said}
 use Rattle.diag_entries.specs.Checked.{entry_value}
 use Rattle.diag_entries.specs.Answers.{said_at}
 use Rattle.diag_entries.proofs.Checks.{Decodes}
 use Rattle.diag_entries.proofs.Sound.{Of}
 use Rattle.diag.specs.Diag.{NetworkDataValue, network_data_of}
+use Rattle.diag.specs.declared.NetworkDataPart.{NetworkDataPart}
 use Rattle.diag.specs.Answers.{opt_network_data}
-use Rattle.diag.specs.declared.OptNetworkData.{OptNetworkData}
-use Rattle.diag.specs.declared.OptNetworkData.TheVariants as n
 use Rattle.diag.proofs.Whole.{last_lies}
 use Rattle.record_writing.specs.Typed.{Given}
 use Rattle.record_writing.specs.Lent.{part_bytes}
@@ -72,9 +73,9 @@ module _ (s : List ℕ) where
     pub plain : Plain 7 (part_bytes s x)
     pub counts : c ≡ N.counts_of (N.contents (part_bytes s x))
 
-  abbrev pub Network : OptNetworkData → Type 0
-  Network (n.Some x) = Holds (part x.start x.len) x.counts
-  Network n.None = Unit {0}
+  abbrev pub Network : Option NetworkDataPart → Type 0
+  Network (Some x) = Holds (part x.start x.len) x.counts
+  Network None = Unit {0}
 
   pub good : (ty : ℕ) (q : Part) → Bytes s → Plain ty (part_bytes s q) → Good ty (part_bytes s q)
   good ty q b p = record {
@@ -92,15 +93,15 @@ module _ (s : List ℕ) where
   sits_by ty f absent x h l g = tt
   sits_by ty f (refused n p i) x h l g = tt
 
-  network_by : (y : OptNetworkData) (x : Answer Entry) → opt_network_data s y ≡ on_given (said network_data_of) x → Of (Lies s) x
+  network_by : (y : Option NetworkDataPart) (x : Answer Entry) → opt_network_data s y ≡ on_given (said network_data_of) x → Of (Lies s) x
       → Has (Plain 7) (on_given (λ (e : Entry). e.value) x) → Network y
-  network_by (n.Some y) (given e) h l g =
+  network_by (Some y) (given e) h l g =
       let place : part y.start y.len ≡ part e.start (length e.value) = ap place_in h in
       let same : part_bytes s (part y.start y.len) ≡ e.value = ap (part_bytes s) place ∙ sym l.2 in
       record { plain = subst (Plain 7) (sym same) g; counts = ap counts_in h ∙ ap (λ (v : List ℕ). N.counts_of (N.contents v)) (sym same) }
-  network_by (n.Some y) absent h l g = absurd (let z : ◌≡◌ {A = ℕ} 0 1 = cc in omega arith)
-  network_by (n.Some y) (refused n p i) h l g = absurd l
-  network_by n.None x h l g = tt
+  network_by (Some y) absent h l g = absurd (let z : ◌≡◌ {A = ℕ} 0 1 = cc in omega arith)
+  network_by (Some y) (refused n p i) h l g = absurd l
+  network_by None x h l g = tt
 
   -- the address lists
   abbrev pub Kept : Entry → Type 0
@@ -122,5 +123,5 @@ module _ (s : List ℕ) where
     pub sits : {A : Type 0} (ty : ℕ) (f : List ℕ → A) (a : Answer Part) → on_given (said_at f s) a ≡ on_given (said f) (last ty (framing s).entries) → Given (Sits ty) a
     sits ty f a h = sits_by ty f a (last ty (framing s).entries) h (last_lies s ty) (last_plain ty)
 
-    pub network_sits : (y : OptNetworkData) → opt_network_data s y ≡ on_given (said network_data_of) (last 7 (framing s).entries) → Network y
+    pub network_sits : (y : Option NetworkDataPart) → opt_network_data s y ≡ on_given (said network_data_of) (last 7 (framing s).entries) → Network y
     network_sits y h = network_by y (last 7 (framing s).entries) h (last_lies s 7) (last_plain 7)

@@ -1,3 +1,2 @@
 pub mod Routing
 pub mod Within
-pub mod Papers

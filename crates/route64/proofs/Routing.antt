@@ -7,18 +7,11 @@ use Prim.Native.Nat.{ℕ, zero, suc, ◌+◌, ◌-◌, ◌≤◌, ◌<◌}
 use native.Mathlib.Omega.{arith}
 use native.Mathlib.Numerals.{add-one, unary_clauses}
 use native.Mathlib.Nat.{zero-add}
-use lib.ListN.{length, get_or, drop, set, replicate, length-replicate, length-drop, drop_of_length-le}
+use lib.ListN.{length, get_or, drop, set, replicate, length-set, length-replicate, length-drop, drop_of_length-le}
 use lib.Seq.{drop-cons, sets, sets-eq}
-use Rattle.refusal.specs.Answer.{given, on_given}
-use Rattle.refusal.specs.Number.{refusal_answer}
-use Rattle.refusal.specs.declared.Refusal.{Refusal}
-use Rattle.diag_rules.specs.Rule.{value_of}
-use Rattle.diag_rules.specs.Answers.{judged}
-use Rattle.route64.specs.declared.Route64.{Route64}
 use Rattle.route64.specs.declared.RouteDataEntry.{RouteDataEntry}
 use Rattle.diag_rules.specs.Mask.{byte_at, routers_of, routes_fit}
-use Rattle.route64.specs.Routes.{routed, route_of, mask_of, routes, zero_routes, laid_out, route_row, rows_of, route_rows, table}
-use Rattle.diag_rules.proofs.Kept.{Keeps, kept, read_refused}
+use Rattle.route64.specs.Routes.{route_of, mask_of, routes, route_row, rows_of, route_rows, table}
 use Rattle.diag_rules.proofs.Mask.{few, fit_length}
 
 -- each router has its row
@@ -53,28 +46,43 @@ lay_all xs h =
     sets-eq xs (replicate 64 (route_row 0 0)) 0 (simp length-replicate (omega arith))
     ∙ simp zero-add (ap (λ (l : List RouteDataEntry). xs ++ l) (drop_replicate (length xs) 64 (route_row 0 0)))
 
--- a loop that lays the rows of the routers ks that are left: where it begins, one row more, the same routers seen otherwise, and the end
-abbrev pub Laid : List ℕ → List RouteDataEntry → (n : ℕ) → (ks : List ℕ) → Type 0
-Laid v rows n ks = lay rows n (rows_of ks (drop (9 + n) v)) ≡ table (route_rows v)
+-- a loop that lays the rows of the routers ks that are left, n of which are laid: where it begins, one row more, the same routers seen otherwise, and the end
+pub record Laying (v : List ℕ) (rows : List RouteDataEntry) (n : ℕ) (ks : List ℕ) : Type 0 where
+  pub long : length rows ≡ 64
+  pub bytes : length v ≡ 9 + (n + length ks)
+  pub few : n + length ks ≤ 64
+  pub is : lay rows n (rows_of ks (drop (9 + n) v)) ≡ table (route_rows v)
 
 module _ (v : List ℕ) where
-  pub laid_start : routes_fit v ≡ true → Laid v (replicate 64 (route_row 0 0)) 0 (routers_of v)
+  pub laying_start : routes_fit v ≡ true → Laying v (replicate 64 (route_row 0 0)) 0 (routers_of v)
   unfolding route_rows
-  laid_start h = lay_all (route_rows v) (omega (arith, fit_rows v h, few v))
+  laying_start h = record {
+    long = refl;
+    bytes = omega (arith, fit_length v h);
+    few = omega (arith, few v);
+    is = lay_all (route_rows v) (omega (arith, fit_rows v h, few v));
+  }
 
-  module _ (rows : List RouteDataEntry) (n : ℕ) (ks : List ℕ) where
-    pub laid_hit : (k m : ℕ) (ms : List ℕ) → ks ≡ k ∷ ms → m ≡ k → 9 + n < length v → Laid v rows n ks → Laid v (set rows n (route_row m (get_or v (9 + n) 0))) (n + 1) ms
+  module _ (rows : List RouteDataEntry) (n : ℕ) (ks : List ℕ) (d : Laying v rows n ks) where
+    pub laying_hit : (k m : ℕ) (ms : List ℕ) → ks ≡ k ∷ ms → m ≡ k → Laying v (set rows n (route_row m (get_or v (9 + n) 0))) (n + 1) ms
     unfolding lay rows_of
-    laid_hit k m ms e same l d =
+    laying_hit k m ms e same =
+        let one = ap length e in
         let z : 9 + (n + 1) ≡ suc (9 + n) = omega arith in
-        rw (same, z, add-one n) (rw (e, drop-cons v (9 + n) 0 l) at d)
+        let l : 9 + n < length v = omega (arith, d.bytes) in
+        record {
+          long = length-set rows n _ ∙ d.long;
+          bytes = omega (arith, d.bytes);
+          few = omega (arith, d.few);
+          is = rw (same, z, add-one n) (rw (e, drop-cons v (9 + n) 0 l) at d.is);
+        }
 
-    pub laid_same : (ms : List ℕ) → ks ≡ ms → Laid v rows n ks → Laid v rows n ms
-    laid_same ms e d = rw e at d
+    pub laying_same : (ms : List ℕ) → ks ≡ ms → Laying v rows n ms
+    laying_same ms e = rw e at d
 
-    pub laid_end : ks ≡ [] → Laid v rows n ks → rows ≡ table (route_rows v)
+    pub laying_end : ks ≡ [] → rows ≡ table (route_rows v)
     unfolding lay rows_of
-    laid_end h d = rw h at d
+    laying_end h = rw h at d.is
 
 -- on the way to row k: the rows of the routers ks that are left, whose bytes start at the place at
 rows_out : (ks : List ℕ) → rows_of ks [] ≡ []
@@ -113,14 +121,3 @@ unfolding routes
 routes_are v mask rows k h m e same =
     let n : k ≡ length (route_rows v) = omega (arith, fit_rows v h, fit_length v h) in
     simp (m, e, n)
-
--- what `decode_route64` answers
-module _ (place : ℕ) (v : List ℕ) where
-  pub laid_kept : Keeps 5 place v → (x : Route64) → x ≡ routes (route_of v) → routed (given tt) x ≡ laid_out (on_given route_of (value_of 5 place v))
-  unfolding laid_out
-  laid_kept e x same = rw (kept 5 place v e).0 (ap (routed (given tt)) same)
-
-  pub laid_refused : (r : Refusal) → refusal_answer r ≡ judged (value_of 5 place v) → (x : Route64) → x ≡ zero_routes
-      → routed (refusal_answer r) x ≡ laid_out (on_given route_of (value_of 5 place v))
-  unfolding laid_out
-  laid_refused r e x same = rw (← read_refused route_of 5 place v r e) (ap (routed (refusal_answer r)) same)

@@ -41,16 +41,8 @@ routes r = record { id_sequence = r.sequence; mask = r.mask; count = length r.ro
 unfoldable pub zero_routes : Route64
 zero_routes = record { id_sequence = 0; mask = replicate 8 0; count = 0; route_data = table [] }
 
--- the answer, and the Route64 beside it
-pub record RouteRead : Type 0 where
-  pub answer : Answer (Unit {0})
-  pub route : Route64
-
-abbrev pub routed : Answer (Unit {0}) → Route64 → RouteRead
-routed a x = record { answer = a; route = x }
-
--- what is given, or zeros and why nothing is
-unfoldable pub laid_out : Answer Route → RouteRead
-laid_out (given r) = routed (given tt) (routes r)
-laid_out absent = routed absent zero_routes
-laid_out (refused n p i) = routed (refused n p i) zero_routes
+-- the Route64 that is given, or zeros where none is
+unfoldable pub laid_out : Answer Route → Route64
+laid_out (given r) = routes r
+laid_out absent = zero_routes
+laid_out (refused n p i) = zero_routes

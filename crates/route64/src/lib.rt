@@ -4,12 +4,11 @@
 ghost use Rattle.std.specs.Prelude.{◌≡◌, true, List, ℕ, ◌≤◌, length};
 ghost use Rattle.refusal.specs.Answer.{on_given, then_do};
 ghost use Rattle.refusal.specs.Numbered.{nth};
+ghost use Rattle.refusal.specs.Results.{answer_of, found_of, option_of};
 ghost use Rattle.diag_rules.specs.Mask.{routes_fit};
 ghost use Rattle.diag_rules.specs.Rule.{value_of};
-ghost use Rattle.route64.specs.Routes.{route_row, route_rows, route_of, table, zero_routes, routes, laid_out};
-ghost use Rattle.route64.specs.Answers.{route_answer, route_read};
+ghost use Rattle.route64.specs.Routes.{route_row, route_rows, route_of, table, routes, zero_routes};
 
-use diag_rules::Judged;
 use refusal::Refusal;
 
 // The routes stand after the sequence and the mask.
@@ -33,19 +32,18 @@ pub struct Route64 {
     pub route_data: [RouteDataEntry; 64],
 }
 
-// A Route64, or zeros and why there is none: an enum cannot hold an array.
-#[derive(Clone, Copy)]
-pub struct ReadRoute64 {
-    pub answer: Judged,
-    pub route: Route64,
-}
+impl Default for Route64 {
+    ghost is_default = { λ r. r ≡ zero_routes };
 
-// One row; `Absent` past the last.
-#[derive(Clone, Copy)]
-pub enum ReadRoute {
-    Value(RouteDataEntry),
-    Absent,
-    Refused(Refusal),
+    // Zeros.
+    fn default() -> Route64 {
+        Route64 {
+            id_sequence: 0,
+            mask: [0; 8],
+            count: 0,
+            route_data: [route_row(0, 0); 64],
+        }
+    }
 }
 
 // Type 5: a router and its route byte.
@@ -60,44 +58,23 @@ fn route_row(router: u8, b: u8) -> RouteDataEntry
     }
 }
 
-// The rows of a Route64 that keeps its rule: of each mask byte the bits that are set, the high bit first; a byte that is zero is passed over.
+// The rows of a Route64 that keeps its rule: of each mask byte the bits that are set, the high bit first.
 fn route_rows(v: &[u8]) -> [RouteDataEntry; 64]
     requires { routes_fit v.now ≡ true }
     ensures { result ≡ table (route_rows v.now) }
 {
-    let zero = route_row(0, 0);
-    let mut rows = [zero; 64];
+    let mut rows = [route_row(0, 0); 64];
     let mut n: usize = 0;
-    let mut j: usize = 0;
-    let mut left = v[1];
-    loop {
-        if left == 0 {
-            j += 1;
-            if j == diag_rules::ROUTER_ID_MASK_LEN {
-                return rows;
-            }
-            left = v[1 + j];
-        } else {
-            let bit = u8::leading_zeros(left) as u8;
-            let row = route_row((j as u8) * 8 + bit, v[ROUTES_AT + n]);
-            rows[n] = row;
+    for j in 0..diag_rules::ROUTER_ID_MASK_LEN {
+        let mut left = v[1 + j];
+        while left != 0 {
+            let bit = left.leading_zeros() as u8;
+            rows[n] = route_row((j as u8) * 8 + bit, v[ROUTES_AT + n]);
             n += 1;
             left -= 128u8 >> bit;
         }
     }
-}
-
-// A Route64 of zeros.
-fn no_routes() -> Route64
-    ensures { result ≡ zero_routes }
-{
-    let zero = route_row(0, 0);
-    Route64 {
-        id_sequence: 0,
-        mask: [0u8; 8],
-        count: 0,
-        route_data: [zero; 64],
-    }
+    rows
 }
 
 // The Route64 of a value that keeps its rule.
@@ -105,68 +82,51 @@ fn route64_of(v: &[u8]) -> Route64
     requires { (9 ≤ length v.now) × (routes_fit v.now ≡ true) }
     ensures { result ≡ routes (route_of v.now) }
 {
-    let rows = route_rows(v);
     Route64 {
         id_sequence: v[0],
         mask: [v[1], v[2], v[3], v[4], v[5], v[6], v[7], v[8]],
         count: v.len() - ROUTES_AT,
-        route_data: rows,
+        route_data: route_rows(v),
     }
 }
 
 // A Route64 with all its rows. Refusals: those of `diag_rules::check_value`.
-pub fn decode_route64(value: &[u8], place: usize) -> ReadRoute64
-    ensures { route_read result ≡ laid_out (on_given route_of (value_of 5 place value.now)) }
+pub fn decode_route64(value: &[u8], place: usize) -> Result<Route64, Refusal>
+    ensures { answer_of result ≡ on_given routes (on_given route_of (value_of 5 place value.now)) }
 {
-    match diag_rules::check_value(diag_rules::ROUTE64, value, place) {
-        Judged::Kept => ReadRoute64 {
-            answer: Judged::Kept,
-            route: route64_of(value),
-        },
-        Judged::Refused(r) => ReadRoute64 {
-            answer: Judged::Refused(r),
-            route: no_routes(),
-        },
-    }
+    diag_rules::check_value(diag_rules::ROUTE64, value, place)?;
+    Ok(route64_of(value))
 }
 
 // Row k of a Route64 whose mask is there.
-fn route_at(v: &[u8], k: usize) -> ReadRoute
+fn route_at(v: &[u8], k: usize) -> Option<RouteDataEntry>
     requires { 9 ≤ length v.now }
-    ensures { route_answer result ≡ nth (route_rows v.now) k }
+    ensures { option_of result ≡ nth (route_rows v.now) k }
 {
     let mut ahead: usize = k;
     let mut at: usize = ROUTES_AT;
-    let mut j: usize = 0;
-    let mut bits = v[1];
-    loop {
-        if bits == 0 {
-            j += 1;
-            if j == diag_rules::ROUTER_ID_MASK_LEN {
-                return ReadRoute::Absent;
-            }
-            bits = v[1 + j];
-        } else {
+    for j in 0..diag_rules::ROUTER_ID_MASK_LEN {
+        let mut bits = v[1 + j];
+        while bits != 0 {
             if v.len() <= at {
-                return ReadRoute::Absent;
+                return None;
             }
-            let bit = u8::leading_zeros(bits) as u8;
+            let bit = bits.leading_zeros() as u8;
             if ahead == 0 {
-                return ReadRoute::Value(route_row((j as u8) * 8 + bit, v[at]));
+                return Some(route_row((j as u8) * 8 + bit, v[at]));
             }
             ahead -= 1;
             at += 1;
             bits -= 128u8 >> bit;
         }
     }
+    None
 }
 
 // Row k of a Route64, from 0 on. Refusals: those of `diag_rules::check_value` at place 0.
-pub fn route64_row(value: &[u8], k: usize) -> ReadRoute
-    ensures { route_answer result ≡ then_do (value_of 5 0 value.now) (λ (v : List ℕ). nth (route_rows v) k) }
+pub fn route64_row(value: &[u8], k: usize) -> Result<Option<RouteDataEntry>, Refusal>
+    ensures { found_of result ≡ then_do (value_of 5 0 value.now) (λ (v : List ℕ). nth (route_rows v) k) }
 {
-    match diag_rules::check_value(diag_rules::ROUTE64, value, 0) {
-        Judged::Kept => route_at(value, k),
-        Judged::Refused(r) => ReadRoute::Refused(r),
-    }
+    diag_rules::check_value(diag_rules::ROUTE64, value, 0)?;
+    Ok(route_at(value, k))
 }

@@ -1,31 +1,22 @@
 -- The record that `speed_write` writes, made of a number n, and the tables that are lent with it, in which all rows are alike.
 -- Assumes nothing.
-use Rattle.std.specs.Prelude.{ℕ, ◌+◌, ◌*◌, true, false, List, replicate, pos, eqb}
+use Rattle.std.specs.Prelude.{ℕ, ◌+◌, ◌*◌, true, false, List, replicate, pos, eqb, Some, None}
 use Rattle.refusal.specs.Sizes.{most_prefixes}
 use Rattle.refusal.specs.Answer.{pick, on_given}
 use Rattle.diag_rules.specs.Rule.{value_of}
 use Rattle.route64.specs.Routes.{route_of, laid_out}
 use Rattle.route64.specs.declared.Route64.{Route64}
-use Rattle.diag_values.specs.declared.OptU8.TheVariants as o8
-use Rattle.diag_values.specs.declared.OptU16.TheVariants as o16
 use Rattle.diag_values.specs.declared.ModeData.{ModeData}
 use Rattle.diag_values.specs.declared.LeaderData.{LeaderData}
 use Rattle.diag_values.specs.declared.MacCounters.{MacCounters}
 use Rattle.connectivity.specs.declared.Connectivity.{Connectivity}
 use Rattle.network_data.specs.Rules.{counts}
-use Rattle.network_data.specs.declared.OptContext.TheVariants as c
 use Rattle.network_data.specs.declared.PrefixEntry.{PrefixEntry}
 use Rattle.network_data.specs.declared.HasRouteEntry.{HasRouteEntry}
 use Rattle.network_data.specs.declared.BorderRouterEntry.{BorderRouterEntry}
+use Rattle.diag_rows.specs.Rows.{part}
 use Rattle.diag_rows.specs.declared.ChildTableEntry.{ChildTableEntry}
 use Rattle.diag_rows.specs.declared.ChildIpv6AddrInfo.{ChildIpv6AddrInfo}
-use Rattle.diag.specs.declared.OptU32.TheVariants as u
-use Rattle.diag.specs.declared.OptMode.TheVariants as m
-use Rattle.diag.specs.declared.OptConnectivity.TheVariants as y
-use Rattle.diag.specs.declared.OptLeaderData.TheVariants as l
-use Rattle.diag.specs.declared.OptMacCounters.TheVariants as k
-use Rattle.diag.specs.declared.OptPart.TheVariants as p
-use Rattle.diag.specs.declared.OptNetworkData.TheVariants as w
 use Rattle.diag.specs.declared.NetworkDataPart.{NetworkDataPart}
 use Rattle.diag.specs.declared.NetDiagData.{NetDiagData}
 use Rattle.network_bridge.specs.Parts.{places}
@@ -53,8 +44,8 @@ links_of n = record {
   leader_cost = n;
   id_sequence = n;
   active_routers = n;
-  rx_off_child_buffer_size = o16.Some n;
-  rx_off_child_datagram_count = o8.Some n;
+  rx_off_child_buffer_size = Some n;
+  rx_off_child_datagram_count = Some n;
 }
 
 abbrev pub leader_of : ℕ → LeaderData
@@ -84,43 +75,43 @@ network_of n = record { start = 0; len = 0; counts = counts (prefixes_for n) (pr
 -- every field, with n addresses, 9 n children, and n address lists
 abbrev pub full_of : ℕ → NetDiagData
 full_of n = record {
-  ext_mac_addr = p.Some 0 8;
-  mac_addr = o16.Some n;
-  mode = m.Some one_mode;
-  timeout = u.Some (spread n);
-  connectivity = y.Some (links_of n);
-  route64 = p.Some 0 0;
-  leader_data = l.Some (leader_of n);
-  network_data = w.Some (network_of n);
-  addresses = p.Some 0 (n * 16);
-  mac_counters = k.Some (counters_of n);
-  battery_level = o8.Some n;
-  supply_voltage = o16.Some n;
-  child_table = p.Some 0 (n * 27);
-  channel_pages = p.Some 0 4;
-  type_list = p.Some 0 17;
-  eui64 = p.Some 0 8;
+  ext_mac_addr = Some (part 0 8);
+  mac_addr = Some n;
+  mode = Some one_mode;
+  timeout = Some (spread n);
+  connectivity = Some (links_of n);
+  route64 = Some (part 0 0);
+  leader_data = Some (leader_of n);
+  network_data = Some (network_of n);
+  addresses = Some (part 0 (n * 16));
+  mac_counters = Some (counters_of n);
+  battery_level = Some n;
+  supply_voltage = Some n;
+  child_table = Some (part 0 (n * 27));
+  channel_pages = Some (part 0 4);
+  type_list = Some (part 0 17);
+  eui64 = Some (part 0 8);
   child_ipv6_addresses = n;
 }
 
 abbrev pub no_field : NetDiagData
 no_field = record {
-  ext_mac_addr = p.None;
-  mac_addr = o16.None;
-  mode = m.None;
-  timeout = u.None;
-  connectivity = y.None;
-  route64 = p.None;
-  leader_data = l.None;
-  network_data = w.None;
-  addresses = p.None;
-  mac_counters = k.None;
-  battery_level = o8.None;
-  supply_voltage = o16.None;
-  child_table = p.None;
-  channel_pages = p.None;
-  type_list = p.None;
-  eui64 = p.None;
+  ext_mac_addr = None;
+  mac_addr = None;
+  mode = None;
+  timeout = None;
+  connectivity = None;
+  route64 = None;
+  leader_data = None;
+  network_data = None;
+  addresses = None;
+  mac_counters = None;
+  battery_level = None;
+  supply_voltage = None;
+  child_table = None;
+  channel_pages = None;
+  type_list = None;
+  eui64 = None;
   child_ipv6_addresses = 0;
 }
 
@@ -135,7 +126,7 @@ one_prefix = record {
   domain_id = 3;
   prefix_bit_length = 64;
   prefix = replicate 32 32;
-  six_low_pan_context = c.Some (record { is_compress = true; context_id = 1; context_length = 64 });
+  six_low_pan_context = Some (record { is_compress = true; context_id = 1; context_length = 64 });
   has_routes = 1;
   border_routers = 1;
 }
@@ -176,7 +167,7 @@ all_lent = record { prefixes = places; has_route = places; border_routers = plac
 
 -- the Route64 of a value, as its decoder hands it out
 abbrev pub route_in : List ℕ → Route64
-route_in v = (laid_out (on_given route_of (value_of 5 0 v))).route
+route_in v = laid_out (on_given route_of (value_of 5 0 v))
 
 -- all that is lent
 abbrev pub lent_with : (routes bytes : List ℕ) → Lent

@@ -4,22 +4,17 @@ ghost use Rattle.std.specs.Prelude.{◌≡◌, ◌≤◌};
 ghost use Rattle.speed.specs.Filled.{spread, one_mode, links_of, leader_of, counters_of, prefixes_for, network_of, full_of, no_field, record_of, one_prefix, one_route, one_border, tables_of, one_child, one_list, rows_of, all_lent};
 
 use connectivity::Connectivity;
-use diag::{
-    NetDiagData, NetworkDataPart, OptConnectivity, OptLeaderData, OptMacCounters, OptMode,
-    OptNetworkData, OptPart, OptU32,
-};
-use diag_rows::{ChildIpv6AddrInfo, ChildTableEntry};
-use diag_values::{LeaderData, MacCounters, ModeData, OptU8, OptU16};
+use diag::{NetDiagData, NetworkDataPart};
+use diag_rows::{ChildIpv6AddrInfo, ChildTableEntry, Part};
+use diag_values::{LeaderData, MacCounters, ModeData};
 use network_bridge::{PLACES, Tables};
-use network_data::{
-    BorderRouterEntry, Counts, HasRouteEntry, OptContext, PrefixEntry, SixLowPanContext,
-};
+use network_data::{BorderRouterEntry, Counts, HasRouteEntry, PrefixEntry, SixLowPanContext};
 use writing_bridge::{CHILD_PLACES, LIST_PLACES, Lengths, Rows};
 
 fn spread_of(n: u8) -> u32
     ensures { (result ≡ spread n) × (result ≤ 4278292845) }
 {
-    n as u32 * 16777619
+    u32::from(n) * 16777619
 }
 
 fn one_mode() -> ModeData
@@ -43,8 +38,8 @@ fn links_of(n: u8) -> Connectivity
         leader_cost: n,
         id_sequence: n,
         active_routers: n,
-        rx_off_child_buffer_size: OptU16::Some(n as u16),
-        rx_off_child_datagram_count: OptU8::Some(n),
+        rx_off_child_buffer_size: Some(u16::from(n)),
+        rx_off_child_datagram_count: Some(n),
     }
 }
 
@@ -80,10 +75,7 @@ fn counters_of(n: u8) -> MacCounters
 fn prefixes_for(n: usize) -> usize
     ensures { result ≡ prefixes_for n }
 {
-    if n > network_data::MAX_PREFIXES {
-        return network_data::MAX_PREFIXES;
-    }
-    n
+    n.min(network_data::MAX_PREFIXES)
 }
 
 // A row of each kind for each prefix. Where it stands does not matter to a writer.
@@ -95,7 +87,7 @@ fn network_of(n: usize) -> NetworkDataPart
         start: 0,
         len: 0,
         counts: Counts {
-            prefixes: prefixes,
+            prefixes,
             has_routes: prefixes,
             border_routers: prefixes,
         },
@@ -106,26 +98,30 @@ fn network_of(n: usize) -> NetworkDataPart
 fn full_of(n: u8) -> NetDiagData
     ensures { result ≡ full_of n }
 {
-    let many = n as usize;
-    let a = many * 16;
-    let c = many * 27;
+    let many = usize::from(n);
     NetDiagData {
-        ext_mac_addr: OptPart::Some { start: 0, len: 8 },
-        mac_addr: OptU16::Some(n as u16),
-        mode: OptMode::Some(one_mode()),
-        timeout: OptU32::Some(spread_of(n)),
-        connectivity: OptConnectivity::Some(links_of(n)),
-        route64: OptPart::Some { start: 0, len: 0 },
-        leader_data: OptLeaderData::Some(leader_of(n)),
-        network_data: OptNetworkData::Some(network_of(many)),
-        addresses: OptPart::Some { start: 0, len: a },
-        mac_counters: OptMacCounters::Some(counters_of(n)),
-        battery_level: OptU8::Some(n),
-        supply_voltage: OptU16::Some(n as u16),
-        child_table: OptPart::Some { start: 0, len: c },
-        channel_pages: OptPart::Some { start: 0, len: 4 },
-        type_list: OptPart::Some { start: 0, len: 17 },
-        eui64: OptPart::Some { start: 0, len: 8 },
+        ext_mac_addr: Some(Part { start: 0, len: 8 }),
+        mac_addr: Some(u16::from(n)),
+        mode: Some(one_mode()),
+        timeout: Some(spread_of(n)),
+        connectivity: Some(links_of(n)),
+        route64: Some(Part { start: 0, len: 0 }),
+        leader_data: Some(leader_of(n)),
+        network_data: Some(network_of(many)),
+        addresses: Some(Part {
+            start: 0,
+            len: many * 16,
+        }),
+        mac_counters: Some(counters_of(n)),
+        battery_level: Some(n),
+        supply_voltage: Some(u16::from(n)),
+        child_table: Some(Part {
+            start: 0,
+            len: many * 27,
+        }),
+        channel_pages: Some(Part { start: 0, len: 4 }),
+        type_list: Some(Part { start: 0, len: 17 }),
+        eui64: Some(Part { start: 0, len: 8 }),
         child_ipv6_addresses: many,
     }
 }
@@ -134,33 +130,31 @@ fn no_field() -> NetDiagData
     ensures { result ≡ no_field }
 {
     NetDiagData {
-        ext_mac_addr: OptPart::None,
-        mac_addr: OptU16::None,
-        mode: OptMode::None,
-        timeout: OptU32::None,
-        connectivity: OptConnectivity::None,
-        route64: OptPart::None,
-        leader_data: OptLeaderData::None,
-        network_data: OptNetworkData::None,
-        addresses: OptPart::None,
-        mac_counters: OptMacCounters::None,
-        battery_level: OptU8::None,
-        supply_voltage: OptU16::None,
-        child_table: OptPart::None,
-        channel_pages: OptPart::None,
-        type_list: OptPart::None,
-        eui64: OptPart::None,
+        ext_mac_addr: None,
+        mac_addr: None,
+        mode: None,
+        timeout: None,
+        connectivity: None,
+        route64: None,
+        leader_data: None,
+        network_data: None,
+        addresses: None,
+        mac_counters: None,
+        battery_level: None,
+        supply_voltage: None,
+        child_table: None,
+        channel_pages: None,
+        type_list: None,
+        eui64: None,
         child_ipv6_addresses: 0,
     }
 }
 
+#[tactic(auto, unfolding(crate::specs::Filled::record_of))]
 pub(crate) fn record_of(n: u8) -> NetDiagData
     ensures { result ≡ record_of n }
 {
-    if n == 0 {
-        return no_field();
-    }
-    full_of(n)
+    if n == 0 { no_field() } else { full_of(n) }
 }
 
 // ---- the tables
@@ -172,7 +166,7 @@ fn one_prefix() -> PrefixEntry
         domain_id: 3,
         prefix_bit_length: 64,
         prefix: [0x20u8; 32],
-        six_low_pan_context: OptContext::Some(SixLowPanContext {
+        six_low_pan_context: Some(SixLowPanContext {
             is_compress: true,
             context_id: 1,
             context_length: 64,
@@ -209,16 +203,14 @@ fn one_border() -> BorderRouterEntry
     }
 }
 
+#[tactic(auto, unfolding(crate::specs::Filled::tables_of))]
 pub(crate) fn tables_of() -> Tables
     ensures { result ≡ tables_of }
 {
-    let prefix = one_prefix();
-    let route = one_route();
-    let border = one_border();
     Tables {
-        prefixes: [prefix; PLACES],
-        has_route: [route; PLACES],
-        border_routers: [border; PLACES],
+        prefixes: [one_prefix(); PLACES],
+        has_route: [one_route(); PLACES],
+        border_routers: [one_border(); PLACES],
     }
 }
 

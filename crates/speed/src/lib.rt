@@ -6,7 +6,9 @@ mod filled;
 
 ghost use Rattle.std.specs.Prelude.{◌≡◌, length};
 ghost use Rattle.refusal.specs.Answer.{given, on_given};
-ghost use Rattle.refusal.specs.Output.{emit, written_answer};
+ghost use Rattle.refusal.specs.Number.{refusal_answer};
+ghost use Rattle.refusal.specs.Output.{emit};
+ghost use Rattle.refusal.specs.Results.{answer_of};
 ghost use Rattle.tlv.specs.Limits.{count};
 ghost use Rattle.tlv_last.specs.Last.{last_value};
 ghost use Rattle.dataset_index.specs.Index.{built};
@@ -31,25 +33,28 @@ ghost use Rattle.speed.specs.Filled.{record_of, lent_with};
 ghost use Rattle.value_sums.specs.Sums.{mode_sum, counts_sum};
 ghost use Rattle.payload_sums.specs.Rows.{payload_sum};
 
-use diag_values::{ModeData, ReadMode};
+use diag_values::ModeData;
 use filled::{all_lent, record_of, rows_of, tables_of};
-use network_data::Checked;
-use payload_sums::{Summed, sum_payload};
-use refusal::Written;
-use tlv::Counted;
+use payload_sums::sum_payload;
+use refusal::Refusal;
 use value_sums::{counts_sum, mode_sum};
 
 const NONE: u64 = 9223372036854775808;
 
-fn coded(w: Written) -> u64
-    ensures { result ≡ code (written_answer w) }
+#[tactic(auto, unfolding(crate::specs::Code::code))]
+fn refused(r: Refusal) -> u64
+    ensures { result ≡ code (refusal_answer r) }
+{
+    NONE + u64::from(r.fault.number())
+}
+
+#[tactic(auto, unfolding(crate::specs::Code::code))]
+fn coded(w: Result<usize, Refusal>) -> u64
+    ensures { result ≡ code (answer_of w) }
 {
     match w {
-        Written::Bytes(n) => n as u64,
-        Written::Refused(r) => {
-            let fault = r.fault;
-            NONE + fault.number() as u64
-        }
+        Ok(n) => n as u64,
+        Err(r) => refused(r),
     }
 }
 
@@ -57,10 +62,7 @@ fn coded(w: Written) -> u64
 pub extern "C" fn speed_count(s: &[u8]) -> u64
     ensures { result ≡ code (count 0 s.now) }
 {
-    match tlv::count_entries(s, 0) {
-        Counted::Entries(n) => n as u64,
-        Counted::Refused(r) => coded(Written::Refused(r)),
-    }
+    coded(tlv::count_entries(s, 0))
 }
 
 #[unsafe(no_mangle)]
@@ -143,34 +145,36 @@ pub extern "C" fn speed_fold(list: &[u8], out: &mut [u8]) -> u64
     coded(changes::fold(list, out))
 }
 
+#[tactic(auto, unfolding(crate::specs::Code::code))]
 #[unsafe(no_mangle)]
 pub extern "C" fn speed_mode(value: &[u8]) -> u64
     ensures { result ≡ code (on_given mode_sum (on_given mode_value (value_of 2 0 value.now))) }
 {
     match ModeData::decode(value, 0) {
-        ReadMode::Value(m) => mode_sum(m),
-        ReadMode::Absent => NONE,
-        ReadMode::Refused(r) => coded(Written::Refused(r)),
+        Ok(m) => mode_sum(m),
+        Err(r) => refused(r),
     }
 }
 
+#[tactic(auto, unfolding(crate::specs::Code::code))]
 #[unsafe(no_mangle)]
 pub extern "C" fn speed_network(value: &[u8]) -> u64
     ensures { result ≡ code (on_given counts_sum (on_given counts_of (decode_network_data 0 value.now))) }
 {
     match network_data::check(value, 0) {
-        Checked::Counted(c) => counts_sum(c),
-        Checked::Refused(r) => coded(Written::Refused(r)),
+        Ok(c) => counts_sum(c),
+        Err(r) => refused(r),
     }
 }
 
+#[tactic(auto, unfolding(crate::specs::Code::code))]
 #[unsafe(no_mangle)]
 pub extern "C" fn speed_payload(payload: &[u8]) -> u64
     ensures { result ≡ code (on_given (payload_sum payload.now) (decode payload.now)) }
 {
     match sum_payload(payload) {
-        Summed::Sum(n) => n,
-        Summed::Refused(r) => coded(Written::Refused(r)),
+        Ok(n) => n,
+        Err(r) => refused(r),
     }
 }
 
@@ -181,8 +185,7 @@ pub extern "C" fn speed_payload(payload: &[u8]) -> u64
 pub extern "C" fn speed_write(routes: &[u8], bytes: &[u8], n: u8, out: &mut [u8]) -> u64
     ensures { (result ≡ code (emit (written (record_of n) (lent_with routes.now bytes.now)) out.old).answer) × (out.new ≡ (emit (written (record_of n) (lent_with routes.now bytes.now)) out.old).left) }
 {
-    let read = route64::decode_route64(routes, 0);
-    let route = read.route;
+    let route = route64::decode_route64(routes, 0).unwrap_or_default();
     coded(writing_bridge::write(
         record_of(n),
         bytes,

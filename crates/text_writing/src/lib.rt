@@ -7,21 +7,14 @@ ghost use Rattle.refusal.specs.Output.{placing};
 ghost use Rattle.text_writing.specs.Decimal.{decimal};
 ghost use Rattle.text_writing.specs.Laid.{laid};
 
-// The last place that is counted. No output reaches it.
-const LAST_PLACE: usize = 18446744073709551615;
-
-// A byte into out at a place, if it has such a place; the place after it.
+// A byte into out at a place, if it has such a place; the place after it. The last place that is counted is usize::MAX, which no output reaches.
 pub fn put_byte(b: u8, out: &mut [u8], at: usize) -> usize
     ensures { placing result out.new ≡ laid at out.old (b ∷ []) }
 {
     if at < out.len() {
         out[at] = b;
-        return at + 1;
     }
-    if at < LAST_PLACE {
-        return at + 1;
-    }
-    at
+    at.saturating_add(1)
 }
 
 // A text into out from at on, as far as there is room; the place after it.
@@ -29,10 +22,8 @@ pub fn put_text(text: &[u8], out: &mut [u8], at: usize) -> usize
     ensures { placing result out.new ≡ laid at out.old text.now }
 {
     let mut next = at;
-    let mut i = 0;
-    while i < text.len() {
-        next = put_byte(text[i], out, next);
-        i += 1;
+    for b in text {
+        next = put_byte(*b, out, next);
     }
     next
 }

@@ -1,3 +1,2 @@
 pub mod Stamps
 pub mod Round
-pub mod Papers

@@ -2,13 +2,9 @@
 -- Building keeps seconds modulo 2^48 and ticks modulo 32,768."
 -- Assumes nothing.
 use Rattle.std.specs.Prelude.{ℕ, ◌+◌, ◌*◌, ◌/◌, ◌%◌, ◌^◌, Bool, true, false, List, eqb}
-use Rattle.refusal.specs.Answer.{Answer, given, absent}
-use Rattle.refusal.specs.Number.{refusal_answer}
 use Rattle.wire_bytes.specs.Bytes.{bytes_of}
 use Rattle.wire.specs.Be.{be}
 use Rattle.timestamps.specs.declared.Timestamp.{Timestamp}
-use Rattle.timestamps.specs.declared.ReadTimestamp.{ReadTimestamp}
-use Rattle.timestamps.specs.declared.ReadTimestamp.TheVariants as t
 
 -- of a value of 8 bytes: the number that it spells
 abbrev pub timestamp_of : List ℕ → Timestamp
@@ -33,9 +29,3 @@ ticks_of x = x / 2 % 32768
 
 abbrev pub authoritative_of : ℕ → Bool
 authoritative_of x = eqb (x % 2) 1
-
--- the code's answer, on paper
-abbrev pub timestamp_answer : ReadTimestamp → Answer Timestamp
-timestamp_answer (t.Value x) = given x
-timestamp_answer t.Absent = absent
-timestamp_answer (t.Refused r) = refusal_answer r

@@ -3,23 +3,15 @@
 
 ghost use Rattle.std.specs.Prelude.{◌≡◌};
 ghost use Rattle.refusal.specs.Answer.{on_given};
+ghost use Rattle.refusal.specs.Results.{answer_of};
 ghost use Rattle.wire.specs.Be.{ruled};
-ghost use Rattle.timestamps.specs.Timestamps.{timestamp_of, timestamp_bytes, timestamp_answer, built, seconds_of, ticks_of, authoritative_of};
+ghost use Rattle.timestamps.specs.Timestamps.{timestamp_of, timestamp_bytes, built, seconds_of, ticks_of, authoritative_of};
 
 use refusal::Refusal;
-use wire::Read64;
 
 // Seconds times 65,536, plus ticks times 2, plus the authoritative bit.
 #[derive(Clone, Copy)]
 pub struct Timestamp(pub u64);
-
-// A timestamp that was read. `Absent` is for the queries that find no value to read.
-#[derive(Clone, Copy)]
-pub enum ReadTimestamp {
-    Value(Timestamp),
-    Absent,
-    Refused(Refusal),
-}
 
 impl Timestamp {
     pub fn from_raw(raw: u64) -> Timestamp
@@ -32,22 +24,18 @@ impl Timestamp {
     pub fn from_components(seconds: u64, ticks: u16, authoritative: bool) -> Timestamp
         ensures { result.0 ≡ built seconds ticks authoritative }
     {
-        let whole = seconds % 281474976710656 * 65536 + (ticks % 32768) as u64 * 2;
-        if authoritative {
-            return Timestamp(whole + 1);
-        }
-        Timestamp(whole)
+        Timestamp(
+            seconds % 281474976710656 * 65536
+                + u64::from(ticks % 32768) * 2
+                + u64::from(authoritative),
+        )
     }
 
     // The timestamp that a value of 8 bytes holds. Refusals: 1, then 4 at the place of its entry.
-    pub fn parse(value: &[u8], place: usize) -> ReadTimestamp
-        ensures { timestamp_answer result ≡ on_given timestamp_of (ruled 8 place value.now) }
+    pub fn parse(value: &[u8], place: usize) -> Result<Timestamp, Refusal>
+        ensures { answer_of result ≡ on_given timestamp_of (ruled 8 place value.now) }
     {
-        match wire::read_u64(value, place) {
-            Read64::Value(x) => ReadTimestamp::Value(Timestamp(x)),
-            Read64::Absent => ReadTimestamp::Absent,
-            Read64::Refused(r) => ReadTimestamp::Refused(r),
-        }
+        Ok(Timestamp(wire::read_u64(value, place)?))
     }
 
     pub fn raw(self) -> u64

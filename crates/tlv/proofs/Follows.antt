@@ -12,6 +12,8 @@ use borrow.Author.Tests.{leb-true}
 use Rattle.laws.proofs.Tests.{pick_all}
 use Rattle.tlv.specs.Entries.{First, none, cut, one, valued, long, marker, first, Entry, clean, Framing, step, frames, framing}
 use Rattle.tlv.specs.Answers.{Head, header_of}
+use Rattle.refusal.specs.Every.{Every}
+use Rattle.tlv.proofs.Walks.{Lies, framing_lies}
 
 -- ---- what stands first takes the bytes up to the rest
 abbrev Spans : List ℕ → First → Type 0
@@ -86,6 +88,16 @@ unfolding frames
 frames_take zero at s h e = omega arith
 frames_take (suc k) at s h e =
     step_takes at s (first s) (first_spans s) (λ n r. frames k n r) (λ n r l f. frames_take k n r (omega arith) f) e
+
+-- entries that lie in the input take no more bytes than it has
+taken_within : (s : List ℕ) (at : ℕ) (es : List Entry) → at ≤ length s → Follow at es → Every (Lies s) es → at + taken es ≤ length s
+taken_within s at [] h f l = omega arith
+taken_within s at (e ∷ es) h f l =
+    let go = taken_within s (e.start + length e.value) es l.0.1 f.2 l.1 in
+    omega (arith, f.0, f.1, l.0.0)
+
+pub framing_taken : (s : List ℕ) → taken (framing s).entries ≤ length s
+framing_taken s = omega (arith, taken_within s 0 (framing s).entries (omega arith) (framing_follows s) (framing_lies s))
 
 -- a well-framed input is all entries
 pub whole_length : (s : List ℕ) → (framing s).stop ≡ clean → length s ≡ taken (framing s).entries

@@ -107,9 +107,12 @@ module _ (i : ℕ) where
     refused_by absent n p k e = absurd (let z : ◌≡◌ {A = ℕ} 0 1 = cc in omega arith)
     refused_by (refused x y z) n p k e = cc
 
-    pub counted_given : (s : List ℕ) (n : ℕ) → given n ≡ count i s → then_do (framed i s) f ≡ f (from s 0).entries
+    pub counted_framed : (s : List ℕ) (n : ℕ) → given n ≡ count i s → then_do (framed i s) f ≡ f (framing s).entries
     unfolding count
-    counted_given s n e = given_by (framing s).entries (framed i s) n (only s) e ∙ ap (λ (w : Framing). f w.entries) (sym (from_start s))
+    counted_framed s n e = given_by (framing s).entries (framed i s) n (only s) e
+
+    pub counted_given : (s : List ℕ) (n : ℕ) → given n ≡ count i s → then_do (framed i s) f ≡ f (from s 0).entries
+    counted_given s n e = counted_framed s n e ∙ ap (λ (w : Framing). f w.entries) (sym (from_start s))
 
     pub counted_refused : (s : List ℕ) (n p k : ℕ) → refused n p k ≡ count i s → refused n p k ≡ then_do (framed i s) f
     unfolding count
@@ -124,7 +127,7 @@ module _ (i : ℕ) where
 
     pub answers_given : (s : List ℕ) (n : ℕ) → given n ≡ count i s → on_given f (framed i s) ≡ given (f (framing s).entries)
     answers_given s n e =
-        on_given_lem (framed i s) ∙ counted_given (λ (es : List Entry). given (f es)) s n e ∙ ap (λ (w : Framing). given (f w.entries)) (from_start s)
+        on_given_lem (framed i s) ∙ counted_framed (λ (es : List Entry). given (f es)) s n e
 
     pub answers_refused : (s : List ℕ) (n p k : ℕ) → refused n p k ≡ count i s → refused n p k ≡ on_given f (framed i s)
     answers_refused s n p k e = counted_refused (λ (es : List Entry). given (f es)) s n p k e ∙ sym (on_given_lem (framed i s))

@@ -260,10 +260,10 @@ module _ (s : List ℕ) (r : Frame) (found : r ≡ frame_at s 0) where
   pub head_entry : (t a n : ℕ) → r ≡ f.Entry t a n → given (head t a n) ≡ head_of (first s)
   head_entry t a n e = ap head_at (sym e ∙ found) ∙ head_by s (frame_at s 0) (first s) (frame_agrees s 0) (inside s 0)
 
-  pub head_none : OneOf (1 ∷ 2 ∷ []) (tag_of Frame.the_type r) → refused 2 0 0 ≡ head_of (first s)
-  head_none k = no_head r k ∙ ap head_at found ∙ head_by s (frame_at s 0) (first s) (frame_agrees s 0) (inside s 0)
+  pub head_none : ((t a n : ℕ) → r ≡ f.Entry t a n → ⊥) → refused 2 0 0 ≡ head_of (first s)
+  head_none never = no_head r never ∙ ap head_at found ∙ head_by s (frame_at s 0) (first s) (frame_agrees s 0) (inside s 0)
     where
-      no_head : (g : Frame) → OneOf (1 ∷ 2 ∷ []) (tag_of Frame.the_type g) → refused 2 0 0 ≡ head_at g
+      no_head : (g : Frame) → ((t a n : ℕ) → g ≡ f.Entry t a n → ⊥) → refused 2 0 0 ≡ head_at g
       no_head f.End k = refl
       no_head f.Cut k = refl
-      no_head (f.Entry t a n) k = ⊎_elim (λ e. absurd (omega arith)) (λ e. absurd (omega arith)) k
+      no_head (f.Entry t a n) k = absurd (k t a n refl)

@@ -1,16 +1,18 @@
 // Entries of a type byte, a length and a value (tlv.rs): framing.
 #![tactic(auto)]
 
-ghost use Rattle.std.specs.Prelude.{◌≡◌, [], ◌∷◌, ltb};
-ghost use Rattle.refusal.specs.Sizes.{most_entries, most_short, most_value};
-ghost use Rattle.refusal.specs.Answer.{pick, given, refused};
-ghost use Rattle.refusal.specs.Number.{fault_number};
+mod walk;
+
+ghost use Rattle.std.specs.Prelude.{◌≡◌, [], ◌∷◌};
+ghost use Rattle.refusal.specs.Sizes.{most_short, most_value};
+ghost use Rattle.refusal.specs.Results.{answer_of};
 ghost use Rattle.tlv.specs.Entries.{marker, first};
 ghost use Rattle.tlv.specs.Limits.{count};
 ghost use Rattle.tlv.specs.Place.{frame_at};
-ghost use Rattle.tlv.specs.Answers.{counted_answer, parsed_answer, head_of};
+ghost use Rattle.tlv.specs.Answers.{head_of, ended};
 
 use refusal::{Fault, Refusal};
+pub use walk::{Entry, EntryIter, entries, entries_from};
 
 // The longest value under a short header, the length byte that announces a long one, and the longest value of all.
 pub const MAX_STANDARD_TLV_LENGTH: usize = 254;
@@ -40,17 +42,12 @@ pub enum Frame {
     End,
 }
 
-// The first entry of some bytes.
+// The first entry of some bytes by itself: its type, the size of its header, the length of its value.
 #[derive(Clone, Copy)]
-pub enum Parsed {
-    Entry { ty: u8, header: usize, len: usize },
-    Refused(Refusal),
-}
-
-#[derive(Clone, Copy)]
-pub enum Counted {
-    Entries(usize),
-    Refused(Refusal),
+pub struct Head {
+    pub ty: u8,
+    pub header: usize,
+    pub len: usize,
 }
 
 // What stands at a place of s: the step of every walk over entries.
@@ -70,10 +67,10 @@ pub fn frame_at(s: &[u8], at: usize) -> Frame
         if n - at < 4 {
             return Frame::Cut;
         }
-        let long = (s[at + 2] as usize) * 256 + s[at + 3] as usize;
+        let long = usize::from(u16::from_be_bytes([s[at + 2], s[at + 3]]));
         if long <= n - (at + 4) {
             return Frame::Entry {
-                ty: ty,
+                ty,
                 start: at + 4,
                 len: long,
             };
@@ -82,7 +79,7 @@ pub fn frame_at(s: &[u8], at: usize) -> Frame
     }
     if short <= n - (at + 2) {
         return Frame::Entry {
-            ty: ty,
+            ty,
             start: at + 2,
             len: short,
         };
@@ -91,54 +88,55 @@ pub fn frame_at(s: &[u8], at: usize) -> Frame
 }
 
 // The first entry of s, of which only that is looked at. Refusal: 2.
-pub fn parse_one(s: &[u8]) -> Parsed
-    ensures { parsed_answer result ≡ head_of (first s.now) }
+pub fn parse_one(s: &[u8]) -> Result<Head, Refusal>
+    ensures { answer_of result ≡ head_of (first s.now) }
 {
     match frame_at(s, 0) {
-        Frame::Entry { ty, start, len } => Parsed::Entry {
-            ty: ty,
+        Frame::Entry { ty, start, len } => Ok(Head {
+            ty,
             header: start,
-            len: len,
-        },
-        _ => Parsed::Refused(Refusal {
-            fault: Fault::Cut,
-            place: 0,
-            input: 0,
+            len,
         }),
+        _ => refusal::refuse(Fault::Cut, 0),
     }
 }
 
-// A refusal of a count, at a place of the caller's input of that number.
-fn refuse(fault: Fault, place: usize, input: u8) -> Counted
-    ensures { counted_answer result ≡ refused (fault_number fault) place input }
+// What a walk over entries or operations answers where it ends, n of them passed: the fault that stopped it, at its place, before 3 at the place of the first
+// past the most, over.
+pub fn stopped(
+    fault: Option<Fault>,
+    at: usize,
+    n: usize,
+    over: usize,
+    input: u8,
+) -> Result<usize, Refusal>
+    ensures { answer_of result ≡ ended fault at n over input }
 {
-    Counted::Refused(Refusal {
-        fault: fault,
-        place: place,
-        input: input,
-    })
-}
-
-// What a walk over entries answers where it ends, n of them passed: 2 at a cut entry's place, then 3 at the place of the first past the most, over.
-pub fn stopped(cut: bool, at: usize, n: usize, over: usize, input: u8) -> Counted
-    ensures { counted_answer result ≡ pick cut (refused 2 at input) (pick (ltb most_entries n) (refused 3 over input) (given n)) }
-{
-    let many = n > refusal::MAX_ENTRIES;
-    if cut {
-        return refuse(Fault::Cut, at, input);
+    match fault {
+        Some(fault) => Err(Refusal {
+            fault,
+            place: at,
+            input,
+        }),
+        None if n > refusal::MAX_ENTRIES => Err(Refusal {
+            fault: Fault::TooMany,
+            place: over,
+            input,
+        }),
+        None => Ok(n),
     }
-    if many {
-        return refuse(Fault::TooMany, over, input);
-    }
-    Counted::Entries(n)
 }
 
 // How many entries s has, which is the caller's input of that number. Refusals: 1, 2, 3.
-pub fn count_entries(s: &[u8], input: u8) -> Counted
-    ensures { counted_answer result ≡ count input s.now }
+pub fn count_entries(s: &[u8], input: u8) -> Result<usize, Refusal>
+    ensures { answer_of result ≡ count input s.now }
 {
     if s.len() > refusal::MAX_BYTES {
-        return refuse(Fault::TooLarge, 0, input);
+        return Err(Refusal {
+            fault: Fault::TooLarge,
+            place: 0,
+            input,
+        });
     }
     let mut at: usize = 0;
     let mut n: usize = 0;
@@ -146,10 +144,10 @@ pub fn count_entries(s: &[u8], input: u8) -> Counted
     loop {
         match frame_at(s, at) {
             Frame::End => {
-                return stopped(false, at, n, over, input);
+                return stopped(None, at, n, over, input);
             }
             Frame::Cut => {
-                return stopped(true, at, n, over, input);
+                return stopped(Some(Fault::Cut), at, n, over, input);
             }
             Frame::Entry { ty: _, start, len } => {
                 if n == refusal::MAX_ENTRIES {

@@ -12,10 +12,10 @@ use borrow.Author.Tests.{eq-eqb, ne_eqb, eqb-true, eqb-false}
 use Rattle.refusal.specs.Answer.{pick, Answer, given, absent, refused, then_do, on_given}
 use Rattle.laws.proofs.Tests.{by_test, pick_all}
 use Rattle.refusal.specs.Every.{Every}
-use Rattle.laws.proofs.Parts.{length_part, every_map}
-use Rattle.tlv.specs.Entries.{Entry, entry, framing}
+use Rattle.laws.proofs.Parts.{every_map}
+use Rattle.tlv.specs.Entries.{Entry, framing}
 use Rattle.tlv.specs.Limits.{framed}
-use Rattle.tlv_last.specs.Last.{last_of, last_entry, Spot, spot_at, spot, later_of, last_spot, value_or, last_value}
+use Rattle.tlv_last.specs.Last.{last_of, last_entry, Spot, spot_at, spot, last_spot, value_or, last_value}
 use Rattle.tlv.proofs.Walks.{Lies, framing_lies}
 use Rattle.tlv.proofs.Tally.{Only, only, Holds, framed_holds}
 
@@ -111,21 +111,15 @@ pub spot_then : (ty i : ℕ) (s : List ℕ) → last_spot ty i s ≡ then_do (fr
 unfolding last_spot last_entry
 spot_then ty i s = spots_then ty (framed i s)
 
--- a turn: an entry that lies in s at a place
-module _ (ty : ℕ) (best : Answer Spot) (s : List ℕ) (p t a n : ℕ) (inside : a + n ≤ length s) (es : List Entry) where
-  pub last_hit : t ≡ ty
-      → last_spot_of ty best (entry p t a (take n (drop a s)) ∷ es) ≡ last_spot_of ty (given (spot_at p a n)) es
+-- a turn
+module _ (ty : ℕ) (best : Answer Spot) (e : Entry) (es : List Entry) where
+  pub last_hit : e.ty ≡ ty → last_spot_of ty best (e ∷ es) ≡ last_spot_of ty (given (spot e)) es
   unfolding last_spot_of
-  last_hit h = simp (eq-eqb _ _ h, length_part s a n inside)
+  last_hit h = simp (eq-eqb _ _ h)
 
-  pub last_miss : (t ≡ ty → ⊥) → last_spot_of ty best (entry p t a (take n (drop a s)) ∷ es) ≡ last_spot_of ty best es
+  pub last_miss : (e.ty ≡ ty → ⊥) → last_spot_of ty best (e ∷ es) ≡ last_spot_of ty best es
   unfolding last_spot_of
   last_miss h = simp (ne_eqb _ _ h)
-
-  -- both, as the code puts them
-  pub last_turn : last_spot_of ty best (entry p t a (take n (drop a s)) ∷ es) ≡ last_spot_of ty (later_of (pick (eqb t ty) (given (spot_at p a n)) absent) best) es
-  unfolding last_spot_of
-  last_turn = by_test (eqb t ty) (λ e. simp (e, length_part s a n inside)) (λ e. simp e)
 
 pub last_none : (ty : ℕ) (best : Answer Spot) → last_spot_of ty best [] ≡ best
 unfolding last_spot_of

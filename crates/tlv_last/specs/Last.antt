@@ -4,6 +4,7 @@ use Rattle.std.specs.Prelude.{ℕ, List, [], ◌∷◌, length, eqb}
 use Rattle.refusal.specs.Answer.{pick, Answer, given, absent, refused, then_do, on_given}
 use Rattle.tlv.specs.Entries.{Entry}
 use Rattle.tlv.specs.Limits.{framed}
+pub use Rattle.tlv_last.specs.declared.Spot.{Spot}
 
 -- the last of es that has the type, or `best` where none has
 unfoldable pub last_of : (ty : ℕ) → Answer Entry → List Entry → Answer Entry
@@ -13,23 +14,11 @@ last_of ty best (e ∷ es) = last_of ty (pick (eqb e.ty ty) (given e) best) es
 unfoldable pub last_entry : (ty input : ℕ) → List ℕ → Answer Entry
 last_entry ty i s = then_do (framed i s) (last_of ty absent)
 
--- where an entry lies: its place, where its value starts, and how long that is
-pub record Spot : Type 0 where
-  pub place : ℕ
-  pub start : ℕ
-  pub len : ℕ
-
 abbrev pub spot_at : (place start len : ℕ) → Spot
 spot_at p a n = record { place = p; start = a; len = n }
 
 abbrev pub spot : Entry → Spot
 spot e = spot_at e.place e.start (length e.value)
-
--- for the code's own steps: what is found here, or else what was found before
-abbrev pub later_of : (here before : Answer Spot) → Answer Spot
-later_of (given e) b = given e
-later_of absent b = b
-later_of (refused n p i) b = refused n p i
 
 unfoldable pub last_spot : (ty input : ℕ) → List ℕ → Answer Spot
 last_spot ty i s = on_given spot (last_entry ty i s)

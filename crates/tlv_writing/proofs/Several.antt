@@ -2,15 +2,13 @@
 -- Assumes nothing.
 use mathlib.Core.Path.{◌≡◌, refl, sym, ap, ◌∙◌}
 use mathlib.Core.List.{List, [], ◌∷◌, ◌++◌, append_assoc}
-use Prim.Native.Nat.{ℕ, ◌+◌, ◌≤◌, ◌<◌}
-use lib.ListN.{length, take, drop}
+use Prim.Native.Nat.{ℕ, ◌≤◌, ◌<◌}
+use lib.ListN.{length}
 use borrow.Author.Tests.{lt-ltb, le-ltb}
 use Rattle.refusal.specs.Sizes.{most_bytes, most_entries}
 use Rattle.refusal.specs.Answer.{given, refused}
-use Rattle.laws.proofs.Parts.{length_part}
 use Rattle.tlv.specs.Entries.{Content}
-use Rattle.tlv_writing.specs.Encode.{encode, size_of, encode_all, sized}
-use Rattle.tlv_writing.proofs.Encodes.{length_encode}
+use Rattle.tlv_writing.specs.Encode.{encode, encode_all, sized}
 
 pub encode_none : encode_all [] ≡ []
 unfolding encode_all
@@ -19,9 +17,6 @@ encode_none = refl
 pub encode_more : (c : Content) (cs : List Content) → encode_all (c ∷ cs) ≡ encode c.ty c.value ++ encode_all cs
 unfolding encode_all
 encode_more c cs = refl
-
-pub size_part : (s : List ℕ) (t a n : ℕ) → a + n ≤ length s → length (encode t (take n (drop a s))) ≡ size_of n
-size_part s t a n h = length_encode t (take n (drop a s)) ∙ ap size_of (length_part s a n h)
 
 pub encode_append : (cs ds : List Content) → encode_all (cs ++ ds) ≡ encode_all cs ++ encode_all ds
 unfolding encode_all

@@ -3,10 +3,11 @@
 
 ghost use Rattle.std.specs.Prelude.{◌≡◌, ◌+◌, ◌≤◌, length};
 ghost use Rattle.refusal.specs.Sizes.{most_value};
-ghost use Rattle.refusal.specs.Output.{output, emit, written_answer, put, placing};
+ghost use Rattle.refusal.specs.Output.{output, emit, put, placing};
+ghost use Rattle.refusal.specs.Results.{answer_of};
 ghost use Rattle.tlv_writing.specs.Encode.{header, headed, entry_size, encoded, placed_if};
 
-use refusal::{Fault, Written};
+use refusal::{Fault, Refusal};
 
 // How many bytes an entry takes whose value has n bytes; 0 where n is over 65,535, since no entry has so long a value.
 pub fn entry_size(n: usize) -> usize
@@ -38,8 +39,8 @@ fn store_header(ty: u8, n: usize, out: &mut [u8], at: usize) -> usize
 }
 
 // The header alone of an entry whose value has len bytes, at the start of out. Refusals: 13, 11.
-pub fn encode_header(ty: u8, len: usize, out: &mut [u8]) -> Written
-    ensures { output (written_answer result) out.new ≡ emit (headed ty len) out.old }
+pub fn encode_header(ty: u8, len: usize, out: &mut [u8]) -> Result<usize, Refusal>
+    ensures { output (answer_of result) out.new ≡ emit (headed ty len) out.old }
 {
     if len > tlv::MAX_EXTENDED_TLV_LENGTH {
         return refusal::refuse(Fault::ValueTooLong, 0);
@@ -47,7 +48,7 @@ pub fn encode_header(ty: u8, len: usize, out: &mut [u8]) -> Written
     if entry_size(len) - len > out.len() {
         return refusal::refuse(Fault::NoRoom, 0);
     }
-    Written::Bytes(store_header(ty, len, out, 0))
+    Ok(store_header(ty, len, out, 0))
 }
 
 // The header of an entry whose value has len bytes, from at on, and the place after it; or nothing, and at, where it has no room or the value would be
@@ -86,8 +87,8 @@ pub fn put_entry(ty: u8, value: &[u8], out: &mut [u8], at: usize) -> usize
 }
 
 // One entry at the start of out. Refusals: 13, 11.
-pub fn write_entry(ty: u8, value: &[u8], out: &mut [u8]) -> Written
-    ensures { output (written_answer result) out.new ≡ emit (encoded ty value.now) out.old }
+pub fn write_entry(ty: u8, value: &[u8], out: &mut [u8]) -> Result<usize, Refusal>
+    ensures { output (answer_of result) out.new ≡ emit (encoded ty value.now) out.old }
 {
     if value.len() > tlv::MAX_EXTENDED_TLV_LENGTH {
         return refusal::refuse(Fault::ValueTooLong, 0);
@@ -95,5 +96,5 @@ pub fn write_entry(ty: u8, value: &[u8], out: &mut [u8]) -> Written
     if entry_size(value.len()) > out.len() {
         return refusal::refuse(Fault::NoRoom, 0);
     }
-    Written::Bytes(put_entry(ty, value, out, 0))
+    Ok(put_entry(ty, value, out, 0))
 }

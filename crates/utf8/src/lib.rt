@@ -31,10 +31,8 @@ fn is_ascii(s: &[u8]) -> bool
     ensures { result ≡ all_one s.now }
 {
     let mut good = true;
-    let mut i = 0;
-    while i < s.len() {
-        good = good & (s[i] <= 0x7F);
-        i += 1;
+    for b in s {
+        good = good & (*b <= 0x7F);
     }
     good
 }
@@ -74,54 +72,51 @@ fn char_len_at(s: &[u8], at: usize, c: u8) -> usize
 }
 
 // 2 where one more byte of a character follows the place, else 0.
+#[tactic(auto, unfolding(crate::specs::Chars::two_at))]
 fn two_at(s: &[u8], at: usize) -> usize
     requires { at < length s.now }
     ensures { result ≡ two_at s.now at }
 {
     if within_at(s, at + 1, 0x80, 0xBF) {
-        return 2;
+        2
+    } else {
+        0
     }
-    0
 }
 
 // 3 where two more bytes follow it, the second of the character from low to high, else 0.
+#[tactic(auto, unfolding(crate::specs::Chars::three_at))]
 fn three_at(s: &[u8], at: usize, low: u8, high: u8) -> usize
     requires { at < length s.now }
     ensures { result ≡ three_at low high s.now at }
 {
-    if within_at(s, at + 1, low, high) {
-        if within_at(s, at + 2, 0x80, 0xBF) {
-            return 3;
-        }
+    if within_at(s, at + 1, low, high) && within_at(s, at + 2, 0x80, 0xBF) {
+        3
+    } else {
+        0
     }
-    0
 }
 
 // 4 where three more bytes follow it, likewise, else 0.
+#[tactic(auto, unfolding(crate::specs::Chars::four_at))]
 fn four_at(s: &[u8], at: usize, low: u8, high: u8) -> usize
     requires { at < length s.now }
     ensures { result ≡ four_at low high s.now at }
 {
-    if within_at(s, at + 1, low, high) {
-        if within_at(s, at + 2, 0x80, 0xBF) {
-            if within_at(s, at + 3, 0x80, 0xBF) {
-                return 4;
-            }
-        }
+    if within_at(s, at + 1, low, high)
+        && within_at(s, at + 2, 0x80, 0xBF)
+        && within_at(s, at + 3, 0x80, 0xBF)
+    {
+        4
+    } else {
+        0
     }
-    0
 }
 
 // Whether a byte from low to high stands at the place.
+#[tactic(auto, unfolding(crate::specs::Chars::within_at))]
 fn within_at(s: &[u8], at: usize, low: u8, high: u8) -> bool
     ensures { result ≡ within_at low high s.now at }
 {
-    if s.len() <= at {
-        return false;
-    }
-    let b = s[at];
-    if b < low {
-        return false;
-    }
-    b <= high
+    at < s.len() && low <= s[at] && s[at] <= high
 }

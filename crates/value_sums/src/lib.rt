@@ -7,10 +7,11 @@ ghost use Rattle.value_sums.specs.Sums.{plus, flag, mode_sum, counts_sum};
 use diag_values::ModeData;
 use network_data::Counts;
 
+#[tactic(auto, unfolding(crate::specs::Sums::plus))]
 pub fn plus(a: u64, b: u64) -> u64
     ensures { result ≡ plus a b }
 {
-    std::num::wrapping_add_u64(a, b)
+    a.wrapping_add(b)
 }
 
 pub fn flag(b: bool) -> u64

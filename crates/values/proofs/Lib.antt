@@ -1,3 +1,2 @@
 pub mod Parses
 pub mod Round
-pub mod Papers

@@ -1,36 +1,46 @@
--- The laws of `be`, for every width: one byte more, and the bound.
+-- The laws of `be`, for every width, and of a value whose length is ruled.
 -- Assumes nothing.
-use mathlib.Core.Path.{◌≡◌, refl, sym, ap, ◌∙◌}
-use mathlib.Core.List.{List, []}
-use Prim.Native.Nat.{ℕ, ◌+◌, ◌*◌, ◌^◌, ◌≤◌, ◌<◌}
+use mathlib.Core.Path.{◌≡◌, sym, ap, ◌∙◌}
+use mathlib.Core.List.{List}
+use Prim.Native.Nat.{ℕ, ◌+◌, ◌*◌, ◌^◌, ◌<◌}
 use native.Mathlib.Omega.{arith}
-use native.Mathlib.Nat.{pow-suc, pow-le-pow_right, lt_of_lt_of_le}
+use native.Mathlib.Nat.{pow-suc}
 use native.Mathlib.Numerals.{add-one}
-use lib.ListN.{length, drop, get_or}
-use lib.Seq.{drop-cons}
-use lib.Dec.{lit<, eqb, ltb}
+use lib.ListN.{length}
+use lib.Dec.{eqb, ltb}
 use borrow.Author.Tests.{eqb-true, eq-eqb, ne_eqb}
 use Rattle.refusal.specs.Sizes.{most_bytes}
 use Rattle.refusal.specs.Answer.{Answer, given, absent, refused, on_given}
 use Rattle.refusal.specs.Number.{refusal_answer}
 use Rattle.refusal.specs.declared.Refusal.{Refusal}
 use Rattle.laws.proofs.Tests.{by_test}
-use Rattle.wire.specs.Be.{be_from, wrong_length, ruled}
+use Rattle.std.specs.Int.{w16, w32, w64, from_be_bytes}
+use lib.Seq.{take_all}
+use Rattle.laws.proofs.Parts.{elements, part_elements}
+use Rattle.wire.specs.Be.{be, be_from, wrong_length, ruled}
 
-pub be_end : (x : ℕ) → be_from x [] ≡ x
-unfolding be_from
-be_end x = refl
-
-pub be_next : (s : List ℕ) (i x : ℕ) → i < length s → be_from (x * 256 + get_or s i 0) (drop (i + 1) s) ≡ be_from x (drop i s)
-unfolding be_from
-be_next s i x h = rw (add-one i, drop-cons s i 0)
-
+-- one byte more is within the bound of one more
 pub bound_next : (i x b : ℕ) → x < 256 ^ i → b < 256 → x * 256 + b < 256 ^ (i + 1)
 bound_next i x b h k = rw (add-one i, pow-suc) (omega arith)
 
-pub room : (i x : ℕ) → x < 256 ^ i → i < 8 → x < 256 ^ 7
-room i x h l = let k : i ≤ 7 = omega arith in lt_of_lt_of_le h (pow-le-pow_right (lit< tt) k)
+-- ---- what `from_be_bytes` gives is what the bytes spell
+whole : (n : ℕ) (v : List ℕ) → length v ≡ n → elements n 0 v ≡ v
+whole n v h = sym (part_elements n 0 v (omega arith)) ∙ take_all n v (omega arith)
 
+module _ (v : List ℕ) where
+  pub spelled_2 : length v ≡ 2 → from_be_bytes w16 v ≡ be v
+  unfolding be be_from
+  spelled_2 h = let e : from_be_bytes w16 v ≡ be (elements 2 0 v) = omega arith in e ∙ ap be (whole 2 v h)
+
+  pub spelled_4 : length v ≡ 4 → from_be_bytes w32 v ≡ be v
+  unfolding be be_from
+  spelled_4 h = let e : from_be_bytes w32 v ≡ be (elements 4 0 v) = omega arith in e ∙ ap be (whole 4 v h)
+
+  pub spelled_8 : length v ≡ 8 → from_be_bytes w64 v ≡ be v
+  unfolding be be_from
+  spelled_8 h = let e : from_be_bytes w64 v ≡ be (elements 8 0 v) = omega arith in e ∙ ap be (whole 8 v h)
+
+-- ---- a value whose length is ruled
 on_wrong : {A B : Type 0} (f : A → B) (place n : ℕ) → on_given f (wrong_length place n) ≡ wrong_length place n
 unfolding wrong_length
 on_wrong f place n = by_test (ltb most_bytes n) (λ e. rw e) (λ e. rw e)
@@ -54,6 +64,16 @@ module _ {A : Type 0} (f : List ℕ → A) (k place : ℕ) (v : List ℕ) where
   pub ruled_is : (x : A) → length v ≡ k → x ≡ f v → given x ≡ on_given f (ruled k place v)
   unfolding ruled
   ruled_is x h e = rw (eq-eqb _ _ h) (ap given e)
+
+-- the bytes themselves
+module _ (k place : ℕ) (v : List ℕ) where
+  pub whole_is : (w : List ℕ) → length v ≡ k → w ≡ v → given w ≡ ruled k place v
+  unfolding ruled
+  whole_is w h e = rw (eq-eqb _ _ h) (ap given e)
+
+  pub whole_not : (r : Refusal) → refusal_answer {A = ℕ} r ≡ wrong_length place (length v) → (length v ≡ k → ⊥) → refusal_answer r ≡ ruled k place v
+  unfolding ruled
+  whole_not r told h = rw (ne_eqb _ _ h) (misfit_any r place _ told)
 
 -- what is given is the value itself, which has the length
 pub ruled_gives : (k place : ℕ) (v w : List ℕ) → ruled k place v ≡ given w → (length v ≡ k) × (w ≡ v)

@@ -2,14 +2,7 @@
 -- Assumes nothing.
 use Rattle.std.specs.Prelude.{ℕ, ◌+◌, ◌*◌, List, [], ◌∷◌, length, ltb, eqb}
 use Rattle.refusal.specs.Sizes.{most_bytes}
-use Rattle.refusal.specs.Answer.{pick, Answer, given, absent, refused, on_given}
-use Rattle.refusal.specs.Number.{refusal_answer}
-use Rattle.wire.specs.declared.Read16.{Read16}
-use Rattle.wire.specs.declared.Read16.TheVariants as v16
-use Rattle.wire.specs.declared.Read32.{Read32}
-use Rattle.wire.specs.declared.Read32.TheVariants as v32
-use Rattle.wire.specs.declared.Read64.{Read64}
-use Rattle.wire.specs.declared.Read64.TheVariants as v64
+use Rattle.refusal.specs.Answer.{pick, Answer, given, refused, on_given}
 
 -- the number that x and then the bytes spell
 unfoldable pub be_from : ℕ → List ℕ → ℕ
@@ -31,18 +24,3 @@ ruled k place v = pick (eqb (length v) k) (given v) (wrong_length place (length 
 -- the number that it spells
 unfoldable pub fixed : (k place : ℕ) → List ℕ → Answer ℕ
 fixed k place v = on_given be (ruled k place v)
-
-abbrev pub answer16 : Read16 → Answer ℕ
-answer16 (v16.Value x) = given x
-answer16 v16.Absent = absent
-answer16 (v16.Refused r) = refusal_answer r
-
-abbrev pub answer32 : Read32 → Answer ℕ
-answer32 (v32.Value x) = given x
-answer32 v32.Absent = absent
-answer32 (v32.Refused r) = refusal_answer r
-
-abbrev pub answer64 : Read64 → Answer ℕ
-answer64 (v64.Value x) = given x
-answer64 v64.Absent = absent
-answer64 (v64.Refused r) = refusal_answer r

@@ -3,6 +3,7 @@
 use mathlib.Core.Path.{◌≡◌, refl}
 use mathlib.Core.List.{List, [], ◌∷◌}
 use Prim.Native.Nat.{ℕ}
+use Rattle.std.specs.Prelude.{Option, Some, None, Result, Ok, Err}
 use Rattle.refusal.specs.Answer.{Answer, given, absent, refused}
 use Rattle.refusal.specs.Every.{Every}
 use Rattle.wire_bytes.specs.Bytes.{bytes_of}
@@ -17,10 +18,6 @@ use Rattle.policy_forms.specs.Forms.{Numbers, numbers, numbers_of, read, stored_
 use Rattle.policy_forms.proofs.Thresholds.{policy_after}
 use Rattle.policy_forms.specs.declared.EitherPolicy.{EitherPolicy}
 use Rattle.policy_forms.specs.declared.EitherPolicy.TheVariants as p
-use Rattle.policy_forms.specs.declared.StatedThreshold.{StatedThreshold}
-use Rattle.policy_forms.specs.declared.StatedThreshold.TheVariants as s
-use Rattle.policy_forms.specs.declared.ThresholdSet.{ThresholdSet}
-use Rattle.policy_forms.specs.declared.ThresholdSet.TheVariants as t
 
 -- ---- read in the form of so many bytes: an answer, and what it must be
 abbrev pub Line : Type 0
@@ -48,9 +45,9 @@ worked = (refl, (refl, (refl, (refl, (refl, (refl, (refl, (refl, tt))))))))
 -- ---- a policy, what it states, what setting a version of it hands back, and the bytes that are then written
 pub record Setting : Type 0 where
   pub policy : EitherPolicy
-  pub states : StatedThreshold
+  pub states : Option ThreadProtocolVersion
   pub version : ThreadProtocolVersion
-  pub set : ThresholdSet
+  pub set : Result EitherPolicy EitherPolicy
   pub written : List ℕ
 
 abbrev three : (rotation flags : ℕ) → EitherPolicy
@@ -64,16 +61,16 @@ settings =
     -- 4, which as 16 flags is `V1Or2`, states nothing as a flag byte, and stays
     record {
       policy = three 672 0x04;
-      states = s.NoneStated;
+      states = None;
       version = v.V5;
-      set = t.NoneStated (three 672 0x04);
+      set = Err (three 672 0x04);
       written = 0x02 ∷ 0xa0 ∷ 0x04 ∷ [];
     }
     ∷ record {
       policy = four 672 0x0004;
-      states = s.Version v.V1Or2;
+      states = Some v.V1Or2;
       version = v.V5;
-      set = t.Set (four 672 0x4000);
+      set = Ok (four 672 0x4000);
       written = 0x02 ∷ 0xa0 ∷ 0x40 ∷ 0x00 ∷ [];
     }
     ∷ []

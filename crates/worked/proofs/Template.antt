@@ -7,7 +7,8 @@ use Rattle.refusal.specs.Answer.{Answer, given, absent, refused}
 use Rattle.refusal.specs.Every.{Every}
 use Rattle.tlv.specs.Entries.{valued, long, first, step, frames, framing}
 use Rattle.tlv.specs.Limits.{limited, framed}
-use Rattle.tlv_last.specs.Last.{last_of, last_entry, Spot, spot_at}
+use Rattle.tlv_last.specs.Last.{last_of, last_entry, spot_at}
+use Rattle.tlv_last.specs.declared.Spot.{Spot}
 use Rattle.house_template.specs.Template.{Supply, site, template, supplied, supplied_spot, supplied_value}
 
 -- the site's dataset, the template, where the value of type 0 lies, and its bytes

@@ -5,9 +5,9 @@ use mathlib.Core.Bool.{Bool, true, false}
 use mathlib.Core.List.{List, [], ◌∷◌, map}
 use Prim.Native.Nat.{ℕ, zero, suc, ◌+◌, ◌≤◌, ◌<◌}
 use native.Mathlib.Omega.{arith}
-use lib.ListN.{length, get_or, take}
+use lib.ListN.{length, get_or}
 use lib.Dec.{eqb}
-use borrow.Author.Tests.{le-leb, lt-leb, eqb-true, eqb-false, eq-eqb, ne_eqb}
+use borrow.Author.Tests.{eqb-true, eqb-false, eq-eqb, ne_eqb}
 use mir.Val.{Val}
 use mir.Syntax.{w8}
 use denote.Laws.{Is}
@@ -16,7 +16,7 @@ use denote.Plain.{UInt}
 use denote.Shadow.{shadow}
 use denote.Struct.Laws as LL
 use Rattle.refusal.specs.Answer.{pick}
-use Rattle.refusal.specs.Each.{all, same}
+use Rattle.refusal.specs.Each.{same}
 use Rattle.laws.proofs.Tests.{by_test}
 use Rattle.diag_rules.specs.Mask.{byte_at, routers_of}
 use Rattle.route64.specs.declared.Route64.{Route64}
@@ -24,9 +24,8 @@ use Rattle.route64.specs.declared.RouteDataEntry.{RouteDataEntry}
 use Rattle.route64.specs.contracts.Route64 as R
 use Rattle.route64.proofs.Route64.TheLaws as R'
 use Rattle.route64.specs.Routes.{route_row}
-use Rattle.value_writing.specs.Fits.{route_row_fits, router, mask_agrees, route64_fits}
+use Rattle.value_writing.specs.Fits.{router, mask_agrees}
 use Rattle.record_writing.specs.Lent.{route_used}
-use Rattle.record_writing.specs.Written.{routes_counted}
 use Rattle.writing_plans.proofs.Left.{left, left_start, left_end, left_more}
 
 -- the bytes of an array are below 256
@@ -88,20 +87,3 @@ module _ (t : Route64) where
 
       pub agree_hit : (get_or t.route_data n d).router_id ≡ k → agree (n + 1) ks ≡ agree n (k ∷ ks)
       agree_hit x = sym (step ∙ ap (λ (b : Bool). pick b (agree (n + 1) ks) false) (eq-eqb _ k x))
-
--- ---- whether it fits
-module _ (t : Route64) (full : length t.route_data ≡ 64) where
-  pub fits_out : 64 < t.count → false ≡ pick (routes_counted t) (route64_fits (route_used t)) false
-  fits_out h = rw (lt-leb t.count (length t.route_data) (omega (arith, full)))
-
-  module _ (h : t.count ≤ 64) where
-    counted : routes_counted t ≡ true
-    counted = le-leb t.count (length t.route_data) (omega (arith, full))
-
-    pub fits_other : mask_agrees (route_used t) ≡ false → false ≡ pick (routes_counted t) (route64_fits (route_used t)) false
-    unfolding route64_fits
-    fits_other e = rw (counted, e)
-
-    pub fits_rows : mask_agrees (route_used t) ≡ true → all route_row_fits (take t.count t.route_data) ≡ pick (routes_counted t) (route64_fits (route_used t)) false
-    unfolding route64_fits
-    fits_rows e = rw (counted, e)

@@ -3,7 +3,7 @@
 use Rattle.std.specs.Prelude.{ℕ, ◌+◌, Bool, true, false, leb}
 use Rattle.refusal.specs.Sizes.{most_bytes, most_entries}
 use Rattle.refusal.specs.Answer.{pick, Answer, given, refused}
-use Rattle.refusal.specs.Output.{written_answer}
+use Rattle.refusal.specs.Results.{answer_of}
 use Rattle.route64.specs.declared.Route64.{Route64}
 use Rattle.diag.specs.declared.NetDiagData.{NetDiagData}
 use Rattle.record_writing.specs.Fits.{passes}
@@ -25,7 +25,7 @@ pub record Planning : Type 0 where
   pub lists : ℕ
 
 abbrev pub plan_paper : Plan → Planning
-plan_paper x = record { answer = written_answer x.answer; go = x.go; prefixes = x.prefixes; network = x.network; children = x.children; lists = x.lists }
+plan_paper x = record { answer = answer_of x.answer; go = x.go; prefixes = x.prefixes; network = x.network; children = x.children; lists = x.lists }
 
 abbrev pub stopped : ℕ → Planning
 stopped n = record { answer = refused n 0 0; go = false; prefixes = 0; network = 0; children = 0; lists = 0 }

@@ -3,13 +3,13 @@
 use Rattle.std.specs.Prelude.{ℕ, ◌+◌, ◌*◌, length, leb}
 use Rattle.refusal.specs.Sizes.{most_bytes}
 use Rattle.refusal.specs.Answer.{pick, Answer, given, absent, refused}
+use Rattle.refusal.specs.Results.{option_of}
 use Rattle.tlv_writing.specs.Encode.{entry_size}
 use Rattle.network_data.specs.declared.Counts.{Counts}
 use Rattle.connectivity.specs.Connectivity.{ConnectivityValue}
 use Rattle.route64.specs.declared.Route64.{Route64}
-use Rattle.diag_values.specs.Answers.{opt_answer8, opt_answer16}
-use Rattle.diag_rows.specs.Rows.{Part}
-use Rattle.diag.specs.Answers.{opt_answer32, opt_mode, opt_connectivity, opt_leader_data, opt_mac_counters, opt_part}
+use Rattle.diag_rows.specs.declared.Part.{Part}
+use Rattle.diag.specs.Answers.{opt_connectivity}
 use Rattle.diag.specs.declared.NetDiagData.{NetDiagData}
 use Rattle.value_writing.specs.Encode.{connectivity_bytes}
 use Rattle.record_writing.specs.Lent.{opt_counts}
@@ -44,32 +44,32 @@ network_size (refused n p i) size = 0
 
 unfoldable pub numbers_size : NetDiagData → ℕ
 numbers_size r =
-    one (opt_answer16 r.mac_addr) * 4 + (one (opt_mode r.mode) * 3 + (one (opt_answer32 r.timeout) * 6 + (one (opt_leader_data r.leader_data) * 10
-    + (one (opt_mac_counters r.mac_counters) * 38 + (one (opt_answer8 r.battery_level) * 3 + one (opt_answer16 r.supply_voltage) * 4)))))
+    one (option_of r.mac_addr) * 4 + (one (option_of r.mode) * 3 + (one (option_of r.timeout) * 6 + (one (option_of r.leader_data) * 10
+    + (one (option_of r.mac_counters) * 38 + (one (option_of r.battery_level) * 3 + one (option_of r.supply_voltage) * 4)))))
 
 unfoldable pub parts_size : NetDiagData → ℕ
 parts_size r =
-    part_size (opt_part r.ext_mac_addr) + (part_size (opt_part r.addresses) + (part_size (opt_part r.child_table)
-    + (part_size (opt_part r.channel_pages) + (part_size (opt_part r.type_list) + part_size (opt_part r.eui64)))))
+    part_size (option_of r.ext_mac_addr) + (part_size (option_of r.addresses) + (part_size (option_of r.child_table)
+    + (part_size (option_of r.channel_pages) + (part_size (option_of r.type_list) + part_size (option_of r.eui64)))))
 
 -- all but Network Data and the address lists
 unfoldable pub fixed_size : NetDiagData → Route64 → ℕ
-fixed_size r t = numbers_size r + (parts_size r + (connectivity_size (opt_connectivity r.connectivity) + route_size (opt_part r.route64) t))
+fixed_size r t = numbers_size r + (parts_size r + (connectivity_size (opt_connectivity r.connectivity) + route_size (option_of r.route64) t))
 
 unfoldable pub numbers_count : NetDiagData → ℕ
 numbers_count r =
-    one (opt_answer16 r.mac_addr) + (one (opt_mode r.mode) + (one (opt_answer32 r.timeout) + (one (opt_leader_data r.leader_data)
-    + (one (opt_mac_counters r.mac_counters) + (one (opt_answer8 r.battery_level) + one (opt_answer16 r.supply_voltage))))))
+    one (option_of r.mac_addr) + (one (option_of r.mode) + (one (option_of r.timeout) + (one (option_of r.leader_data)
+    + (one (option_of r.mac_counters) + (one (option_of r.battery_level) + one (option_of r.supply_voltage))))))
 
 unfoldable pub parts_count : NetDiagData → ℕ
 parts_count r =
-    one (opt_part r.ext_mac_addr) + (one (opt_part r.addresses) + (one (opt_part r.child_table) + (one (opt_part r.channel_pages)
-    + (one (opt_part r.type_list) + one (opt_part r.eui64)))))
+    one (option_of r.ext_mac_addr) + (one (option_of r.addresses) + (one (option_of r.child_table) + (one (option_of r.channel_pages)
+    + (one (option_of r.type_list) + one (option_of r.eui64)))))
 
 -- all but the address lists
 unfoldable pub fixed_count : NetDiagData → ℕ
 fixed_count r =
-    numbers_count r + (parts_count r + (one (opt_connectivity r.connectivity) + (one (opt_part r.route64) + one (opt_counts r.network_data))))
+    numbers_count r + (parts_count r + (one (opt_connectivity r.connectivity) + (one (option_of r.route64) + one (opt_counts r.network_data))))
 
 -- once the prefixes or the lists alone are over the size of a payload, so is this
 unfoldable pub total_size : NetDiagData → Route64 → Prefixes → Lists → ℕ

@@ -3,10 +3,11 @@
 use Rattle.std.specs.Prelude.{ℕ, ◌+◌, ◌/◌, ◌%◌, Bool, false, [], ◌∷◌, leb, eqb}
 use Rattle.refusal.specs.Answer.{pick}
 use Rattle.refusal.specs.Each.{all}
+use Rattle.refusal.specs.Results.{option_of}
 use Rattle.network_data.specs.declared.Counts.{Counts}
 use Rattle.route64.specs.declared.Route64.{Route64}
-use Rattle.diag_rows.specs.Rows.{Part}
-use Rattle.diag.specs.Answers.{opt_connectivity, opt_part}
+use Rattle.diag_rows.specs.declared.Part.{Part}
+use Rattle.diag.specs.Answers.{opt_connectivity}
 use Rattle.diag.specs.declared.NetDiagData.{NetDiagData}
 use Rattle.value_writing.specs.Fits.{connectivity_fits, route64_fits}
 use Rattle.record_writing.specs.Fits.{passes}
@@ -27,7 +28,7 @@ inside_by n q = leb (q.start + q.len) n
 unfoldable pub parts_inside_by : NetDiagData → ℕ → Bool
 parts_inside_by r n =
     all (passes (inside_by n))
-    (opt_part r.ext_mac_addr ∷ opt_part r.addresses ∷ opt_part r.channel_pages ∷ opt_part r.type_list ∷ opt_part r.eui64 ∷ [])
+    (option_of r.ext_mac_addr ∷ option_of r.addresses ∷ option_of r.channel_pages ∷ option_of r.type_list ∷ option_of r.eui64 ∷ [])
 
 unfoldable pub route_by : Route64 → Part → Bool
 route_by t q = pick (routes_counted t) (route64_fits (route_used t)) false
@@ -56,13 +57,13 @@ lists_by r x ls = pick (leb r.child_ipv6_addresses x.lists_lent) ls.fits false
 unfoldable pub bytes_by : NetDiagData → Used → Lists → Bool
 bytes_by r x ls =
     pick (parts_inside_by r x.bytes)
-    (pick (passes whole_by (opt_part r.addresses)) (pick (passes eight_by (opt_part r.eui64)) (lists_by r x ls) false) false) false
+    (pick (passes whole_by (option_of r.addresses)) (pick (passes eight_by (option_of r.eui64)) (lists_by r x ls) false) false) false
 
 unfoldable pub links_by : NetDiagData → Route64 → Bool
-links_by r t = pick (passes connectivity_fits (opt_connectivity r.connectivity)) (passes (route_by t) (opt_part r.route64)) false
+links_by r t = pick (passes connectivity_fits (opt_connectivity r.connectivity)) (passes (route_by t) (option_of r.route64)) false
 
 unfoldable pub fits_by : NetDiagData → Route64 → Used → Prefixes → (routes borders children : Bool) → Lists → Bool
 fits_by r t x f h b c ls =
     pick (bytes_by r x ls)
     (pick (links_by r t)
-    (pick (passes (tables_by x f h b) (opt_counts r.network_data)) (passes (children_by x c) (opt_part r.child_table)) false) false) false
+    (pick (passes (tables_by x f h b) (opt_counts r.network_data)) (passes (children_by x c) (option_of r.child_table)) false) false) false

@@ -1,6 +1,7 @@
 // 15: what a record names and counts is lent, and fits.
 ghost use Rattle.std.specs.Prelude.{◌≡◌};
-ghost use Rattle.diag.specs.Answers.{opt_connectivity, opt_part};
+ghost use Rattle.refusal.specs.Results.{option_of};
+ghost use Rattle.diag.specs.Answers.{opt_connectivity};
 ghost use Rattle.value_writing.specs.Fits.{connectivity_fits};
 ghost use Rattle.record_writing.specs.Fits.{passes};
 ghost use Rattle.record_writing.specs.Lent.{opt_counts};
@@ -8,176 +9,79 @@ ghost use Rattle.writing_plans.specs.Tests.{inside_by, parts_inside_by, route_by
 
 use crate::linked::connectivity_fits;
 use crate::routers::route64_fits;
-use diag::{NetDiagData, OptConnectivity, OptNetworkData, OptPart};
+use diag::{NetDiagData, NetworkDataPart};
+use diag_rows::Part;
 use network_data::Counts;
 use route64::Route64;
 use writing_walks::{Lists, Prefixes, Used};
 
-fn inside(x: OptPart, n: usize) -> bool
-    ensures { result ≡ passes (inside_by n) (opt_part x) }
+#[tactic(auto, unfolding(record_writing::specs::Fits::passes))]
+fn inside(x: Option<Part>, n: usize) -> bool
+    ensures { result ≡ passes (inside_by n) (option_of x) }
 {
-    match x {
-        OptPart::Some { start, len } => {
-            if start > n {
-                return false;
-            }
-            len <= n - start
-        }
-        OptPart::None => true,
-    }
+    x.is_none_or(|p| p.start <= n && p.len <= n - p.start)
 }
 
+#[tactic(auto, unfolding(crate::specs::Tests::parts_inside_by, refusal::specs::Each::all))]
 fn parts_inside(r: NetDiagData, n: usize) -> bool
     ensures { result ≡ parts_inside_by r n }
 {
-    let mac = r.ext_mac_addr;
-    let addresses = r.addresses;
-    let pages = r.channel_pages;
-    let types = r.type_list;
-    let eui64 = r.eui64;
-    if !inside(mac, n) {
-        return false;
-    }
-    if !inside(addresses, n) {
-        return false;
-    }
-    if !inside(pages, n) {
-        return false;
-    }
-    if !inside(types, n) {
-        return false;
-    }
-    inside(eui64, n)
+    inside(r.ext_mac_addr, n)
+        && inside(r.addresses, n)
+        && inside(r.channel_pages, n)
+        && inside(r.type_list, n)
+        && inside(r.eui64, n)
 }
 
-fn connected(x: OptConnectivity) -> bool
-    ensures { result ≡ passes connectivity_fits (opt_connectivity x) }
-{
-    match x {
-        OptConnectivity::Some(c) => connectivity_fits(c),
-        OptConnectivity::None => true,
-    }
-}
-
-fn routed(x: OptPart, t: Route64) -> bool
-    ensures { result ≡ passes (route_by t) (opt_part x) }
-{
-    match x {
-        OptPart::Some { start: _, len: _ } => route64_fits(t),
-        OptPart::None => true,
-    }
-}
-
+#[tactic(auto, unfolding(record_writing::specs::Fits::passes, crate::specs::Tests::route_by, crate::specs::Tests::links_by))]
 fn links_fit(r: NetDiagData, t: Route64) -> bool
     ensures { result ≡ links_by r t }
 {
-    let connectivity = r.connectivity;
-    let part = r.route64;
-    if !connected(connectivity) {
-        return false;
-    }
-    routed(part, t)
+    r.connectivity.is_none_or(connectivity_fits) && (r.route64.is_none() || route64_fits(t))
 }
 
 // The tables are long enough, their rows fit, and the prefixes ask for all of them.
+#[tactic(auto, unfolding(crate::specs::Tests::tables_by))]
 fn rows_agree(u: Used, p: Prefixes, h: bool, b: bool, c: Counts) -> bool
     ensures { result ≡ tables_by u p h b c }
 {
-    if c.prefixes > u.prefixes_lent {
-        return false;
-    }
-    if c.has_routes > u.routes_lent {
-        return false;
-    }
-    if c.border_routers > u.borders_lent {
-        return false;
-    }
-    if !p.fits {
-        return false;
-    }
-    if p.routes != c.has_routes {
-        return false;
-    }
-    if p.borders != c.border_routers {
-        return false;
-    }
-    if !h {
-        return false;
-    }
-    b
+    c.prefixes <= u.prefixes_lent
+        && c.has_routes <= u.routes_lent
+        && c.border_routers <= u.borders_lent
+        && p.fits
+        && p.routes == c.has_routes
+        && p.borders == c.border_routers
+        && h
+        && b
 }
 
-fn tables_agree(x: OptNetworkData, u: Used, p: Prefixes, h: bool, b: bool) -> bool
+#[tactic(auto, unfolding(record_writing::specs::Fits::passes))]
+fn tables_agree(x: Option<NetworkDataPart>, u: Used, p: Prefixes, h: bool, b: bool) -> bool
     ensures { result ≡ passes (tables_by u p h b) (opt_counts x) }
 {
-    match x {
-        OptNetworkData::Some(n) => rows_agree(u, p, h, b, n.counts),
-        OptNetworkData::None => true,
-    }
+    x.is_none_or(|n| rows_agree(u, p, h, b, n.counts))
 }
 
-fn whole_addresses(x: OptPart) -> bool
-    ensures { result ≡ passes whole_by (opt_part x) }
+#[tactic(auto, unfolding(record_writing::specs::Fits::passes, crate::specs::Tests::children_by))]
+fn children_agree(x: Option<Part>, u: Used, c: bool) -> bool
+    ensures { result ≡ passes (children_by u c) (option_of x) }
 {
-    match x {
-        OptPart::Some { start: _, len } => len % 16 == 0,
-        OptPart::None => true,
-    }
-}
-
-fn children_agree(x: OptPart, u: Used, c: bool) -> bool
-    ensures { result ≡ passes (children_by u c) (opt_part x) }
-{
-    match x {
-        OptPart::Some { start: _, len } => {
-            if len % 3 != 0 {
-                return false;
-            }
-            if len / 3 > u.children_lent {
-                return false;
-            }
-            c
-        }
-        OptPart::None => true,
-    }
-}
-
-fn eight_bytes(x: OptPart) -> bool
-    ensures { result ≡ passes eight_by (opt_part x) }
-{
-    match x {
-        OptPart::Some { start: _, len } => len == 8,
-        OptPart::None => true,
-    }
-}
-
-fn lists_fit(r: NetDiagData, u: Used, ls: Lists) -> bool
-    ensures { result ≡ lists_by r u ls }
-{
-    if r.child_ipv6_addresses > u.lists_lent {
-        return false;
-    }
-    ls.fits
+    x.is_none_or(|p| p.len % 3 == 0 && p.len / 3 <= u.children_lent && c)
 }
 
 // What lies in the lent bytes.
+#[tactic(auto, unfolding(record_writing::specs::Fits::passes, crate::specs::Tests::lists_by, crate::specs::Tests::bytes_by))]
 fn bytes_fit(r: NetDiagData, u: Used, ls: Lists) -> bool
     ensures { result ≡ bytes_by r u ls }
 {
-    let addresses = r.addresses;
-    let eui64 = r.eui64;
-    if !parts_inside(r, u.bytes) {
-        return false;
-    }
-    if !whole_addresses(addresses) {
-        return false;
-    }
-    if !eight_bytes(eui64) {
-        return false;
-    }
-    lists_fit(r, u, ls)
+    parts_inside(r, u.bytes)
+        && r.addresses.is_none_or(|p| p.len % 16 == 0)
+        && r.eui64.is_none_or(|p| p.len == 8)
+        && r.child_ipv6_addresses <= u.lists_lent
+        && ls.fits
 }
 
+#[tactic(auto, unfolding(crate::specs::Tests::fits_by))]
 pub(crate) fn fits(
     r: NetDiagData,
     t: Route64,
@@ -190,16 +94,8 @@ pub(crate) fn fits(
 ) -> bool
     ensures { result ≡ fits_by r t u p h b c ls }
 {
-    let network = r.network_data;
-    let children = r.child_table;
-    if !bytes_fit(r, u, ls) {
-        return false;
-    }
-    if !links_fit(r, t) {
-        return false;
-    }
-    if !tables_agree(network, u, p, h, b) {
-        return false;
-    }
-    children_agree(children, u, c)
+    bytes_fit(r, u, ls)
+        && links_fit(r, t)
+        && tables_agree(r.network_data, u, p, h, b)
+        && children_agree(r.child_table, u, c)
 }

@@ -18,13 +18,14 @@ ghost use Rattle.writing_plans.specs.Plans.{plan_paper, stopped, plan_by, placed
 use diag::NetDiagData;
 use lent::fits;
 use limits::{counts_fit, lengths_fit};
-use refusal::{Fault, Written};
+use refusal::Fault;
 use route64::Route64;
 use sizes::{fixed_count, total_size};
-use used::{children_used, counts_in, lesser, no_lists, no_prefixes};
+use used::{children_used, counts_in};
 use writing_walks::{Lists, Plan, Prefixes, Used};
 
 // How many rows of each table a record uses, of as many as are lent; `room` is the length of the output.
+#[tactic(auto, unfolding(crate::specs::Used::used_of, crate::specs::Used::least))]
 pub fn count_used(
     r: NetDiagData,
     bytes: usize,
@@ -37,25 +38,20 @@ pub fn count_used(
 ) -> Used
     ensures { result ≡ used_of r bytes prefixes routes borders children lists room }
 {
-    let network = r.network_data;
-    let table = r.child_table;
-    let c = counts_in(network);
+    let c = counts_in(r.network_data);
     Used {
-        bytes: bytes,
-        room: room,
+        bytes,
+        room,
         prefixes_lent: prefixes,
         routes_lent: routes,
         borders_lent: borders,
         children_lent: children,
         lists_lent: lists,
-        prefixes: lesser(c.prefixes, prefixes),
-        routes: lesser(c.has_routes, routes),
-        borders: lesser(c.border_routers, borders),
-        children: children_used(table, children),
-        lists: lesser(r.child_ipv6_addresses, lists),
-        no_prefixes: no_prefixes(),
-        no_lists: no_lists(bytes),
-        fits: true,
+        prefixes: c.prefixes.min(prefixes),
+        routes: c.has_routes.min(routes),
+        borders: c.border_routers.min(borders),
+        children: children_used(r.child_table, children),
+        lists: r.child_ipv6_addresses.min(lists),
     }
 }
 
@@ -77,10 +73,7 @@ fn is_small(size: usize, entries: usize, lists: usize) -> bool
     requires { entries ≤ 16 }
     ensures { result ≡ pick (leb size most_bytes) (leb (entries + lists) most_entries) false }
 {
-    if size > refusal::MAX_BYTES {
-        return false;
-    }
-    lists <= refusal::MAX_ENTRIES - entries
+    size <= refusal::MAX_BYTES && lists <= refusal::MAX_ENTRIES - entries
 }
 
 // 11, or how many bytes and rows.
@@ -91,7 +84,7 @@ fn placed(size: usize, u: Used, p: Prefixes) -> Plan
         return stop(Fault::NoRoom);
     }
     Plan {
-        answer: Written::Bytes(size),
+        answer: Ok(size),
         go: true,
         prefixes: u.prefixes,
         network: p.size,
@@ -114,9 +107,8 @@ pub fn plan_by(
 ) -> Plan
     ensures { plan_paper result ≡ plan_by r t u p h b c ls }
 {
-    let network = r.network_data;
     let short = lengths_fit(r, ls);
-    let few = counts_fit(network);
+    let few = counts_fit(r.network_data);
     let fit = fits(r, t, u, p, h, b, c, ls);
     let size = total_size(r, t, p, ls);
     let small = is_small(size, fixed_count(r), u.lists);

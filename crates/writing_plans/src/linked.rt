@@ -1,53 +1,30 @@
 // 15, of Connectivity.
 ghost use Rattle.std.specs.Prelude.{◌≡◌};
+ghost use Rattle.refusal.specs.Results.{option_of};
 ghost use Rattle.connectivity.specs.Answers.{connectivity_paper};
-ghost use Rattle.diag_values.specs.Answers.{opt_answer8, opt_answer16};
 ghost use Rattle.value_writing.specs.Fits.{priority_fits, late_fits, connectivity_fits};
 
 use connectivity::Connectivity;
-use diag_values::{OptU8, OptU16};
 
-// -2 to 1.
+#[tactic(auto, unfolding(value_writing::specs::Fits::priority_fits))]
 fn priority_fits(p: i8) -> bool
     ensures { result ≡ priority_fits p }
 {
-    if p == 0 {
-        return true;
-    }
-    if p == 1 {
-        return true;
-    }
-    if p == -1 {
-        return true;
-    }
-    if p == -2 {
-        return true;
-    }
-    false
+    -2 <= p && p <= 1
 }
 
-fn late_fits(b: OptU16, d: OptU8) -> bool
-    ensures { result ≡ late_fits (opt_answer16 b) (opt_answer8 d) }
+// Both or neither.
+#[tactic(auto, unfolding(value_writing::specs::Fits::late_fits))]
+fn late_fits(b: Option<u16>, d: Option<u8>) -> bool
+    ensures { result ≡ late_fits (option_of b) (option_of d) }
 {
-    match b {
-        OptU16::Some(_) => match d {
-            OptU8::Some(_) => true,
-            OptU8::None => false,
-        },
-        OptU16::None => match d {
-            OptU8::Some(_) => false,
-            OptU8::None => true,
-        },
-    }
+    b.is_some() == d.is_some()
 }
 
+#[tactic(auto, unfolding(value_writing::specs::Fits::connectivity_fits))]
 pub(crate) fn connectivity_fits(c: Connectivity) -> bool
     ensures { result ≡ connectivity_fits (connectivity_paper c) }
 {
-    if !priority_fits(c.parent_priority) {
-        return false;
-    }
-    let b = c.rx_off_child_buffer_size;
-    let d = c.rx_off_child_datagram_count;
-    late_fits(b, d)
+    priority_fits(c.parent_priority)
+        && late_fits(c.rx_off_child_buffer_size, c.rx_off_child_datagram_count)
 }

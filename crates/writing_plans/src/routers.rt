@@ -11,13 +11,7 @@ use route64::{Route64, RouteDataEntry};
 fn route_row_fits(r: RouteDataEntry) -> bool
     ensures { result ≡ route_row_fits r }
 {
-    if r.outgoing_link_quality > 3 {
-        return false;
-    }
-    if r.incoming_link_quality > 3 {
-        return false;
-    }
-    r.route_cost <= 15
+    r.outgoing_link_quality <= 3 && r.incoming_link_quality <= 3 && r.route_cost <= 15
 }
 
 // The rows are those of the mask's set bits, ascending; a mask byte that is zero is passed over.
@@ -54,24 +48,12 @@ fn rows_fit(t: Route64) -> bool
     requires { t.count ≤ 64 }
     ensures { result ≡ all route_row_fits (take t.count t.route_data) }
 {
-    let mut n: usize = 0;
-    while n < t.count {
-        if !route_row_fits(t.route_data[n]) {
-            return false;
-        }
-        n += 1;
-    }
-    true
+    t.route_data[..t.count].iter().all(|r| route_row_fits(*r))
 }
 
+#[tactic(auto, unfolding(value_writing::specs::Fits::route64_fits))]
 pub(crate) fn route64_fits(t: Route64) -> bool
     ensures { result ≡ pick (routes_counted t) (route64_fits (route_used t)) false }
 {
-    if t.count > 64 {
-        return false;
-    }
-    if !mask_agrees(t) {
-        return false;
-    }
-    rows_fit(t)
+    t.count <= 64 && mask_agrees(t) && rows_fit(t)
 }

@@ -1,7 +1,7 @@
 // No functions: the records that the writer hands from one call to the next.
 #![tactic(auto)]
 
-use refusal::Written;
+use refusal::Refusal;
 
 // Where the next prefix goes in the output, and where its rows begin in the two tables.
 #[derive(Clone, Copy)]
@@ -29,7 +29,7 @@ pub struct Lists {
     pub size: usize,
 }
 
-// What is lent, in bytes and rows; how many rows of each table the record uses; and with what each table's pass begins.
+// What is lent, in bytes and rows; how many rows of each table the record uses.
 #[derive(Clone, Copy)]
 pub struct Used {
     pub bytes: usize,
@@ -44,15 +44,12 @@ pub struct Used {
     pub borders: usize,
     pub children: usize,
     pub lists: usize,
-    pub no_prefixes: Prefixes,
-    pub no_lists: Lists,
-    pub fits: bool,
 }
 
 // The answer; whether there is something to write; how many rows of each table then, and how many bytes Network Data has.
 #[derive(Clone, Copy)]
 pub struct Plan {
-    pub answer: Written,
+    pub answer: Result<usize, Refusal>,
     pub go: bool,
     pub prefixes: usize,
     pub network: usize,

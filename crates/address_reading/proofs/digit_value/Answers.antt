@@ -1,7 +1,6 @@
 -- `address_reading::digit_value` meets its contract.
 use native.Mathlib.Omega.{arith}
 use Rattle.address_reading.proofs.Digits.{numeral_is, small_is, capital_is, other_is}
-use borrow.Author.Rules.{rules}
 use Rattle.address_reading.proofs.digit_value.Goals as goal
 
 pub returns-in-48-to-57 : goal.returns-in-48-to-57

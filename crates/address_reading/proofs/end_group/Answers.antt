@@ -1,7 +1,6 @@
 -- `address_reading::end_group` meets its contract.
 use native.Mathlib.Omega.{arith}
 use Rattle.address_reading.proofs.Turns.{ended_empty, ended_full, ended_stored}
-use borrow.Author.Rules.{rules}
 use Rattle.address_reading.proofs.end_group.Goals as goal
 
 pub returns-then-n-eq0 : goal.returns-then-n-eq0

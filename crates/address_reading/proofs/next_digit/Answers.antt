@@ -2,7 +2,6 @@
 use mathlib.Core.Path.{◌∙◌}
 use native.Mathlib.Omega.{arith}
 use Rattle.address_reading.proofs.Digits.{added_full, added_nibble}
-use borrow.Author.Rules.{rules}
 use Rattle.address_reading.proofs.next_digit.Goals as goal
 
 pub returns-then-n-eq4 : goal.returns-then-n-eq4

@@ -3,7 +3,6 @@ use mathlib.Core.Path.{sym, ◌∙◌}
 use native.Mathlib.Omega.{arith}
 use lib.ListN.{length-set}
 use Rattle.laws.proofs.Puts.{put_byte, put_one}
-use borrow.Author.Rules.{rules}
 use Rattle.address_reading.proofs.put_group.Goals as goal
 
 pub bounds-out-at-2 : goal.bounds-out-at-2

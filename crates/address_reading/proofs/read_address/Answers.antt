@@ -3,7 +3,6 @@ use mathlib.Core.Path.{sym}
 use native.Mathlib.Omega.{arith}
 use Rattle.laws.proofs.Emits.{placed_left, emit_refused, emit_no_room, emit_done}
 use Rattle.address_reading.proofs.Laid.{read_given, read_none}
-use borrow.Author.Rules.{rules}
 use Rattle.address_reading.proofs.read_address.Goals as goal
 
 pub returns-then-count-ne8 : goal.returns-then-count-ne8

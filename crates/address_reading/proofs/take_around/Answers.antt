@@ -5,7 +5,6 @@ use lib.ListN.{length}
 use Rattle.address_reading.specs.Loops.{of_eight}
 use Rattle.address_reading.proofs.Counts.{sides_not}
 use Rattle.address_reading.proofs.Laid.{sides_read}
-use borrow.Author.Rules.{rules}
 use Rattle.address_reading.proofs.take_around.Goals as goal
 
 pub take_groups-l-requires : goal.take_groups-l-requires

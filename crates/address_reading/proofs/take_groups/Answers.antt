@@ -1,8 +1,8 @@
 -- `address_reading::take_groups` meets its contract.
-use native.Mathlib.Omega.{arith}
+use mathlib.Core.Path.{sym, ◌∙◌}
+use borrow.Author.Tests.{eqb-true}
 use Rattle.address_reading.proofs.Turns.{taken_empty}
-use borrow.Author.Rules.{rules}
 use Rattle.address_reading.proofs.take_groups.Goals as goal
 
-pub returns-then-text-eq0 : goal.returns-then-text-eq0
-returns-then-text-eq0 c = taken_empty _ _ (omega arith)
+pub returns-then-is_empty : goal.returns-then-is_empty
+returns-then-is_empty c = taken_empty _ _ (eqb-true _ _ (sym c.is_empty.ensures ∙ c.if-is_empty.true))

@@ -7,7 +7,6 @@ use Rattle.address_forms.proofs.Decides.{long_none}
 use Rattle.address_reading.specs.Loops.{of_eight}
 use Rattle.address_reading.proofs.Counts.{address_whole, address_around}
 use Rattle.address_reading.proofs.Laid.{whole_read}
-use borrow.Author.Rules.{rules}
 use Rattle.address_reading.proofs.take_text.Goals as goal
 
 pub returns-then-text-gt-MAX_TEXT : goal.returns-then-text-gt-MAX_TEXT

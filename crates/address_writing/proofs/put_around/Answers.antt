@@ -3,7 +3,6 @@ use mathlib.Core.Path.{◌∙◌}
 use native.Mathlib.Omega.{arith}
 use lib.ListN.{length-set}
 use Rattle.address_writing.proofs.Turns.{around_length, around_put}
-use borrow.Author.Rules.{rules}
 use Rattle.address_writing.proofs.put_around.Goals as goal
 
 pub put_parted-at-requires : goal.put_parted-at-requires

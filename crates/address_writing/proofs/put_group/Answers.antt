@@ -1,7 +1,6 @@
 -- `address_writing::put_group` meets its contract.
 use mathlib.Core.Path.{refl}
 use Rattle.address_writing.proofs.Turns.{four_is, group_placed}
-use borrow.Author.Rules.{rules}
 use Rattle.address_writing.proofs.put_group.Goals as goal
 
 pub returns : goal.returns

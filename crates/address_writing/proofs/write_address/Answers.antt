@@ -3,7 +3,6 @@ use mathlib.Core.Path.{refl}
 use native.Mathlib.Omega.{arith}
 use Rattle.laws.proofs.Emits.{emit_no_room}
 use Rattle.address_writing.proofs.Turns.{text_written}
-use borrow.Author.Rules.{rules}
 use Rattle.address_writing.proofs.write_address.Goals as goal
 
 pub returns-then-n-out : goal.returns-then-n-out

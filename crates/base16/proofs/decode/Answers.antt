@@ -5,7 +5,6 @@ use mathlib.Core.List.{List}
 use Prim.Native.Nat.{ℕ, ◌≤◌}
 use lib.ListN.{length}
 use native.Mathlib.Omega.{arith}
-use borrow.Author.Rules.{rules}
 use Rattle.laws.proofs.Emits.{emit_refused, emit_no_room, emit_done}
 use Rattle.base16.specs.Loops.{all_digits, first_bad}
 use Rattle.base16.proofs.Scans.{bad_tells, good_tells}

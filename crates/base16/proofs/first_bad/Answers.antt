@@ -1,11 +1,10 @@
--- `base16::first_bad` meets its contract. The invariant: the search from i on finds what the whole search finds.
+-- `base16::first_bad` meets its contract.
 use mathlib.Core.Path.{◌≡◌, refl, sym, ◌∙◌}
-use Prim.Native.Nat.{◌≤◌, ◌-◌}
+use native.Mathlib.Omega.{arith}
 use native.Mathlib.Nat.{zero-add}
-use lib.ListN.{length, drop}
+use lib.ListN.{length}
 use borrow.Author.Rules.{rules}
 use borrow.Author.Tests.{not-true, not-false}
-use Rattle.base16.specs.Loops.{first_bad}
 use Rattle.base16.proofs.Scans.{bad_next, bad_here, bad_end, bad_none}
 use Rattle.base16.proofs.first_bad.Goals as goal
 
@@ -24,4 +23,6 @@ loop-i-preserved c =
     (search rules, bad_next _ _ c.loop-i-test.true (sym c.is_digit.ensures ∙ not-false c.is_digit.result c.if-not-is_digit.false-raw) ∙ c.loop-i.invariant.1)
 
 pub returns : goal.returns
-returns c = sym (bad_end _ _ c.loop-i-test.false) ∙ c.loop-i.invariant.1
+returns c =
+    let all : length c.args.text.now ≡ c.loop-i.i = omega arith in
+    all ∙ sym (bad_end _ _ (omega arith)) ∙ c.loop-i.invariant.1

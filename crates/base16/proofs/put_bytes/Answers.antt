@@ -1,11 +1,8 @@
--- `base16::put_bytes` meets its contract. The invariant: the bytes of the text from 2 * i on, stored from i on, make of out what all the bytes make of it.
-use mathlib.Core.Path.{◌≡◌, refl, sym, ◌∙◌}
-use Prim.Native.Nat.{◌*◌, ◌-◌, ◌≤◌}
+-- `base16::put_bytes` meets its contract.
+use mathlib.Core.Path.{refl, sym, ◌∙◌}
 use native.Mathlib.Omega.{arith}
-use lib.ListN.{length, drop, length-set}
+use lib.ListN.{length-set}
 use borrow.Author.Rules.{rules}
-use Rattle.refusal.specs.Output.{put}
-use Rattle.base16.specs.Loops.{paired}
 use Rattle.base16.proofs.Scans.{all_at}
 use Rattle.base16.proofs.Pairs.{pair_next, pair_end}
 use Rattle.base16.proofs.put_bytes.Goals as goal

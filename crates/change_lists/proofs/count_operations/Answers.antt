@@ -14,7 +14,7 @@ use Rattle.change_lists.proofs.count_operations.Goals as goal
 
 pub returns-then-list-gt-MAX_BYTES : goal.returns-then-list-gt-MAX_BYTES
 unfolding operations
-returns-then-list-gt-MAX_BYTES c = c.refuse.ensures ∙ simp (lt-ltb most_bytes _ c.if-list-gt-MAX_BYTES.true)
+returns-then-list-gt-MAX_BYTES c = simp (lt-ltb most_bytes _ c.if-list-gt-MAX_BYTES.true)
 
 pub loop-start-init : goal.loop-start-init
 unfolding operations

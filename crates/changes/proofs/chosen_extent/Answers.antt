@@ -1,82 +1,72 @@
--- `changes::chosen_extent` meets its contract. The invariant: what is counted, and what the sets from at on take, is what all take.
--- The measure is what is left of the list.
-use mathlib.Core.Path.{ap, ◌∙◌}
-use mathlib.Core.List.{List}
+-- `changes::chosen_extent` meets its contract.
+use mathlib.Core.Path.{sym, ap, ◌∙◌}
+use Prim.Native.Nat.{◌+◌}
 use native.Mathlib.Omega.{arith}
 use native.Mathlib.Nat.{zero-add}
 use lib.ListN.{length}
-use borrow.Author.Rules.{rules}
-use Rattle.tlv.specs.Entries.{Content}
 use Rattle.tlv_writing.specs.Encode.{encode_all}
 use Rattle.tlv_writing.proofs.Encodes.{size_bound, entry_size_lem}
-use Rattle.changes.specs.Loops.{extent_of}
-use Rattle.change_lists.proofs.Places.{turn_none, set_within, removal_inside, set_ops, removal_ops}
-use Rattle.changes.proofs.Turns.{chosen_from, chosen_start, chosen_end, chosen_set, chosen_not, chosen_removal}
 use Rattle.tlv_writing.proofs.Several.{encode_none}
+use Rattle.change_lists.specs.Walk.{left}
+use Rattle.change_lists.proofs.Fits.{fit_next, ops_fit}
+use Rattle.changes.specs.Loops.{extent_of}
+use Rattle.changes.proofs.Turns.{chosen_set, chosen_not, chosen_other, chosen_none, chosen_all, chosen_bound}
 use Rattle.changes.proofs.Writes.{all_length, extent_is}
 use Rattle.changes.proofs.chosen_extent.Goals as goal
 
-pub loop-ty-init : goal.loop-ty-init
-loop-ty-init c = (search rules, search rules, search rules, zero-add _, zero-add _)
-
-pub overflow_add-end : goal.overflow_add-end
-overflow_add-end c = omega (arith, set_within _ _ _ c.operation_at.ensures _ _ _ c.in-Set.is)
+pub loop-operation-init : goal.loop-operation-init
+loop-operation-init c =
+    rw (c.into_iter-operation-iterator.ensures.into_iter_gives, c.operations-operation-items.ensures) (zero-add _, zero-add _, ops_fit _)
 
 pub overflow_add-base : goal.overflow_add-base
-overflow_add-base c = omega (arith, c.requires)
+overflow_add-base c =
+    let held = rw (c.in-Some.ensures.steps, c.in-Set.is) at c.loop-operation.invariant in
+    omega (arith, c.requires, fit_next (c.in-Set.place + (4 + length c.in-Set.value.now)) (length c.args.list.now) (left c.next.new.self) held.2.1)
 
 pub overflow_add-base-in-Set : goal.overflow_add-base-in-Set
-overflow_add-base-in-Set c = omega (arith, c.requires)
+overflow_add-base-in-Set c =
+    let held = rw (c.in-Some.ensures.steps, c.in-Set.is) at c.loop-operation.invariant in
+    omega (arith, c.requires, fit_next (c.in-Set.place + (4 + length c.in-Set.value.now)) (length c.args.list.now) (left c.next.new.self) held.2.1)
 
 pub overflow_add-bytes : goal.overflow_add-bytes
 overflow_add-bytes c =
-    let inside = set_within _ _ _ c.operation_at.ensures _ _ _ c.in-Set.is in
-    let n = c.in-Set.len in
-    omega (arith, inside, c.entry_size-bytes.ensures ∙ entry_size_lem n (omega arith), size_bound n)
+    let held = rw (c.in-Some.ensures.steps, c.in-Set.is) at c.loop-operation.invariant in
+    let n = length c.in-Set.value.now in
+    let size = c.entry_size-bytes.ensures ∙ entry_size_lem n (omega (arith, c.requires, fit_next (c.in-Set.place + (4 + length c.in-Set.value.now)) (length c.args.list.now) (left c.next.new.self) held.2.1)) in
+    omega (arith, c.requires, size, size_bound n, fit_next (c.in-Set.place + (4 + length c.in-Set.value.now)) (length c.args.list.now) (left c.next.new.self) held.2.1, held.0, chosen_bound c.args.marks c.args.base _ _ (ops_fit c.args.list.now))
 
 pub overflow_add-entries : goal.overflow_add-entries
-overflow_add-entries c = omega (arith, set_within _ _ _ c.operation_at.ensures _ _ _ c.in-Set.is)
+overflow_add-entries c = omega (arith, c.requires, c.loop-operation.invariant.1, chosen_bound c.args.marks c.args.base _ _ (ops_fit c.args.list.now))
 
-pub loop-ty-smaller-then-marks-ty : goal.loop-ty-smaller-then-marks-ty
-loop-ty-smaller-then-marks-ty c = omega (arith, set_within _ _ _ c.operation_at.ensures _ _ _ c.in-Set.is)
+pub loop-operation-preserved-then-marks-ty : goal.loop-operation-preserved-then-marks-ty
+loop-operation-preserved-then-marks-ty c =
+    let held = rw (c.in-Some.ensures.steps, c.in-Set.is) at c.loop-operation.invariant in
+    let n = length c.in-Set.value.now in
+    let more = chosen_set c.args.marks c.args.base (left c.next.new.self) _ _ c.in-Set.value.now c.if-marks-ty.true in
+    let size = c.entry_size-bytes.ensures ∙ entry_size_lem n (omega (arith, c.requires, fit_next (c.in-Set.place + (4 + length c.in-Set.value.now)) (length c.args.list.now) (left c.next.new.self) held.2.1)) in
+    (omega (arith, held.0, size, all_length _ _ _ more), omega (arith, held.1, ap length more), (fit_next (c.in-Set.place + (4 + length c.in-Set.value.now)) (length c.args.list.now) (left c.next.new.self) held.2.1).1)
 
-pub loop-ty-preserved-then-marks-ty : goal.loop-ty-preserved-then-marks-ty
-loop-ty-preserved-then-marks-ty c =
-    let found = c.operation_at.ensures in
-    let inside = set_within _ _ _ found _ _ _ c.in-Set.is in
-    let n = c.in-Set.len in
-    let a = c.args in
-    let more = chosen_set a.marks _ _ _ _ _ _ (set_ops _ _ _ found _ _ _ c.in-Set.is) c.if-marks-ty.true in
-    omega (arith, size_bound n, all_length a.list.now _ _ n _ _ more inside.1, ap length more, c.entry_size-bytes.ensures ∙ entry_size_lem n (omega arith))
+pub loop-operation-preserved-else-marks-ty : goal.loop-operation-preserved-else-marks-ty
+loop-operation-preserved-else-marks-ty c =
+    let held = rw (c.in-Some.ensures.steps, c.in-Set.is) at c.loop-operation.invariant in
+    let skip = sym (chosen_not c.args.marks c.args.base (left c.next.new.self) _ _ c.in-Set.value.now c.if-marks-ty.false) in (
+      ap (λ cs. c.loop-operation.bytes + length (encode_all cs)) skip ∙ held.0,
+      ap (λ cs. c.loop-operation.entries + length cs) skip ∙ held.1,
+      (fit_next (c.in-Set.place + (4 + length c.in-Set.value.now)) (length c.args.list.now) (left c.next.new.self) held.2.1).1,
+    )
 
-pub loop-ty-smaller-else-marks-ty : goal.loop-ty-smaller-else-marks-ty
-loop-ty-smaller-else-marks-ty c = omega (arith, set_within _ _ _ c.operation_at.ensures _ _ _ c.in-Set.is)
+pub loop-operation-preserved : goal.loop-operation-preserved
+loop-operation-preserved c =
+    let held = rw c.in-Some.ensures.steps at c.loop-operation.invariant in
+    let skip = sym (chosen_other c.args.marks c.args.base (left c.next.new.self) _ c.in_default.not-Set) in (
+      ap (λ cs. c.loop-operation.bytes + length (encode_all cs)) skip ∙ held.0,
+      ap (λ cs. c.loop-operation.entries + length cs) skip ∙ held.1,
+      (fit_next _ (length c.args.list.now) (left c.next.new.self) held.2.1).1,
+    )
 
-pub loop-ty-preserved-else-marks-ty : goal.loop-ty-preserved-else-marks-ty
-loop-ty-preserved-else-marks-ty c =
-    let found = c.operation_at.ensures in
-    let inside = set_within _ _ _ found _ _ _ c.in-Set.is in
-    let skip = chosen_not c.args.marks _ _ _ _ _ _ (set_ops _ _ _ found _ _ _ c.in-Set.is) c.if-marks-ty.false in
-    omega (arith, ap length skip, ap (λ (cs : List Content). length (encode_all cs)) skip)
-
-pub overflow_add-at : goal.overflow_add-at
-overflow_add-at c = omega (arith, removal_inside _ _ _ c.operation_at.ensures _ c.in-Remove.is)
-
-pub loop-ty-smaller : goal.loop-ty-smaller
-loop-ty-smaller c = omega (arith, removal_inside _ _ _ c.operation_at.ensures _ c.in-Remove.is)
-
-pub loop-ty-preserved : goal.loop-ty-preserved
-loop-ty-preserved c =
-    let found = c.operation_at.ensures in
-    let inside = removal_inside _ _ _ found _ c.in-Remove.is in
-    let a = c.args in
-    let skip = chosen_removal a.marks a.base _ _ _ _ (removal_ops _ _ _ found _ c.in-Remove.is) in
-    omega (arith, ap length skip, ap (λ (cs : List Content). length (encode_all cs)) skip)
-
-pub returns-in_default : goal.returns-in_default
-returns-in_default c =
-    let a = c.args in
-    let none = chosen_end a.marks a.base _ _ (turn_none _ _ _ c.operation_at.ensures c.in_default.in_default-own.keys3) in
-    let bytes = ap length (ap encode_all none ∙ encode_none) in
-    let entries = ap length none in
-    (extent_is _ _ (chosen_from a.marks a.base a.list.now 0) (omega arith) (omega arith) ∙ ap extent_of (chosen_start _ _ _), omega arith, omega arith)
+pub returns : goal.returns
+returns c =
+    let held = rw (c.in-None.ensures.steps.0, chosen_none, encode_none) at c.loop-operation.invariant in
+    let most = chosen_bound c.args.marks c.args.base _ _ (ops_fit c.args.list.now) in
+    let all = chosen_all c.args.marks c.args.base c.args.list.now in
+    (extent_is _ _ _ (omega (arith, held.0)) (omega (arith, held.1)) ∙ ap extent_of all, omega (arith, c.requires, held.0, most), omega (arith, c.requires, held.1, most))

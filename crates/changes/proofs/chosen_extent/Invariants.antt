@@ -1,16 +1,16 @@
--- `changes::chosen_extent` meets its contract. The invariant: what is counted, and what the sets from at on take, is what all take.
--- The measure is what is left of the list.
+-- `changes::chosen_extent` meets its contract. The invariant: what is counted, and what is chosen of the operations that are left, is what all take.
 use mathlib.Core.Path.{◌≡◌}
-use Prim.Native.Nat.{◌+◌, ◌-◌, ◌≤◌}
+use Prim.Native.Nat.{◌+◌}
 use lib.ListN.{length}
+use Rattle.change_lists.specs.Operations.{ops_of}
+use Rattle.change_lists.specs.Walk.{left}
+use Rattle.change_lists.proofs.Fits.{Fit}
 use Rattle.tlv_writing.specs.Encode.{encode_all}
-use Rattle.changes.proofs.Turns.{chosen_from}
+use Rattle.changes.proofs.Turns.{chosen_of}
 use Rattle.changes.proofs.chosen_extent.Given as goal
 
-abbrev pub invariant-loop-ty : goal.invariant-loop-ty
-invariant-loop-ty l = (l.at ≤ length l.list) × (l.bytes ≤ l.at) × (l.entries ≤ l.at)
-    × (l.bytes + length (encode_all (chosen_from l.marks l.base l.list l.at)) ≡ length (encode_all (chosen_from l.marks l.base l.list 0)))
-    × (l.entries + length (chosen_from l.marks l.base l.list l.at) ≡ length (chosen_from l.marks l.base l.list 0))
-
-abbrev pub decreases-loop-ty : goal.decreases-loop-ty
-decreases-loop-ty l = length l.list - l.at
+abbrev pub invariant-loop-operation : goal.invariant-loop-operation
+invariant-loop-operation l =
+    (l.bytes + length (encode_all (chosen_of l.marks l.base (left l.operation-iterator))) ≡ length (encode_all (chosen_of l.marks l.base (ops_of l.list).ops)))
+    × (l.entries + length (chosen_of l.marks l.base (left l.operation-iterator)) ≡ length (chosen_of l.marks l.base (ops_of l.list).ops))
+    × Fit 0 (length l.list) (left l.operation-iterator)

@@ -1,12 +1,11 @@
--- `changes::mark` meets its contract. The invariant: what the operations from at on leave is what all leave. The measure is what is left
--- of the list.
-use Prim.Native.Nat.{◌-◌, ◌≤◌}
+-- `changes::mark` meets its contract. The invariant: what the operations that are left leave is what all leave, and they lie within the list.
 use lib.ListN.{length}
+use Rattle.change_lists.specs.Walk.{left}
+use Rattle.change_lists.proofs.Fits.{Fit}
+use Rattle.changes.specs.Loops.{ops_after}
 use Rattle.changes.proofs.Turns.{Going}
 use Rattle.changes.proofs.mark.Given as goal
 
-abbrev pub invariant-loop-ty : goal.invariant-loop-ty
-invariant-loop-ty l = (l.at ≤ length l.list) × Going l.marks l.initial.marks l.base l.list l.at
-
-abbrev pub decreases-loop-ty : goal.decreases-loop-ty
-decreases-loop-ty l = length l.list - l.at
+abbrev pub invariant-loop-operation : goal.invariant-loop-operation
+invariant-loop-operation l =
+    Going l.marks l.initial.marks l.base (left l.operation-iterator) (ops_after l.base l.list) × Fit 0 (length l.list) (left l.operation-iterator)

@@ -1,100 +1,65 @@
--- `changes::put_chosen` meets its contract. The invariant: what is left to write, stored from here on, makes of out what all the sets make
--- of it. The measure is what is left of the list.
+-- `changes::put_chosen` meets its contract.
 use mathlib.Core.Path.{refl, sym, ap, ◌∙◌}
+use Prim.Native.Nat.{◌+◌}
 use native.Mathlib.Omega.{arith}
-use native.Mathlib.Nat.{add-sub_cancel_left}
+use native.Mathlib.Nat.{add-zero}
 use lib.ListN.{length}
-use borrow.Author.Rules.{rules}
 use Rattle.refusal.specs.Output.{put}
-use Rattle.laws.proofs.Parts.{length_part}
 use Rattle.laws.proofs.Puts.{put_none, put_then}
+use Rattle.change_lists.specs.Walk.{left}
+use Rattle.change_lists.proofs.Fits.{fit_next, ops_fit}
 use Rattle.changes.specs.Loops.{encode_sets}
-use Rattle.change_lists.proofs.Places.{turn_none, set_within, removal_inside, set_ops, removal_ops}
-use Rattle.changes.proofs.Turns.{chosen_start, chosen_end, chosen_set, chosen_not, chosen_removal}
+use Rattle.changes.proofs.Turns.{chosen_set, chosen_not, chosen_other, chosen_none, chosen_all}
 use Rattle.changes.proofs.Writes.{sets_none, sets_more, sets_length_more}
 use Rattle.changes.proofs.put_chosen.Goals as goal
 
-pub loop-ty-init : goal.loop-ty-init
-loop-ty-init c = (search rules, refl, refl, refl)
-
-pub overflow_add-end : goal.overflow_add-end
-overflow_add-end c = omega (arith, set_within _ _ _ c.operation_at.ensures _ _ _ c.in-Set.is)
+pub loop-operation-init : goal.loop-operation-init
+loop-operation-init c =
+    rw (c.into_iter-operation-iterator.ensures.into_iter_gives, c.operations-operation-items.ensures) (refl, refl, refl, ops_fit _)
 
 pub overflow_add-base : goal.overflow_add-base
-overflow_add-base c = omega (arith, c.requires)
+overflow_add-base c =
+    let held = rw (c.in-Some.ensures.steps, c.in-Set.is) at c.loop-operation.invariant in
+    omega (arith, c.requires, fit_next (c.in-Set.place + (4 + length c.in-Set.value.now)) (length c.args.list.now) (left c.next.new.self) held.3.1)
 
 pub overflow_add-base-in-Set : goal.overflow_add-base-in-Set
-overflow_add-base-in-Set c = omega (arith, c.requires)
-
-pub slice_bounds-put_set-end : goal.slice_bounds-put_set-end
-slice_bounds-put_set-end c = omega (arith, set_within _ _ _ c.operation_at.ensures _ _ _ c.in-Set.is)
+overflow_add-base-in-Set c =
+    let held = rw (c.in-Some.ensures.steps, c.in-Set.is) at c.loop-operation.invariant in
+    omega (arith, c.requires, fit_next (c.in-Set.place + (4 + length c.in-Set.value.now)) (length c.args.list.now) (left c.next.new.self) held.3.1)
 
 pub put_set-to-requires : goal.put_set-to-requires
 put_set-to-requires c =
-    let found = c.operation_at.ensures in
-    let inside = set_within _ _ _ found _ _ _ c.in-Set.is in
-    let a = c.in-Set.start in
-    let n = c.in-Set.len in
-    let more = chosen_set c.args.marks _ _ _ _ _ _ (set_ops _ _ _ found _ _ _ c.in-Set.is) c.if-marks-ty.true in
-    let room = rw (← chosen_start _ _ _) at c.requires.2 in
-    let short = length_part c.args.list.now a n inside.1 in
-    simp add-sub_cancel_left (omega (arith, short), omega (arith, sets_length_more c.args.marked _ _ _ more, room, c.loop-ty.invariant))
+    let held = rw (c.in-Some.ensures.steps, c.in-Set.is) at c.loop-operation.invariant in
+    let more = chosen_set c.args.marks c.args.base (left c.next.new.self) _ _ c.in-Set.value.now c.if-marks-ty.true in
+    let room = rw (← chosen_all _ _ _) at c.requires.2 in
+    (omega (arith, c.requires, fit_next (c.in-Set.place + (4 + length c.in-Set.value.now)) (length c.args.list.now) (left c.next.new.self) held.3.1), omega (arith, sets_length_more c.args.marked _ _ _ more, room, held.0, held.1))
 
-pub loop-ty-smaller-then-marks-ty : goal.loop-ty-smaller-then-marks-ty
-loop-ty-smaller-then-marks-ty c = omega (arith, set_within _ _ _ c.operation_at.ensures _ _ _ c.in-Set.is)
-
-pub loop-ty-preserved-then-marks-ty : goal.loop-ty-preserved-then-marks-ty
-loop-ty-preserved-then-marks-ty c =
-    let found = c.operation_at.ensures in
-    let inside = set_within _ _ _ found _ _ _ c.in-Set.is in
-    let more = chosen_set c.args.marks _ _ _ _ _ _ (set_ops _ _ _ found _ _ _ c.in-Set.is) c.if-marks-ty.true in
-    let told = simp add-sub_cancel_left at c.put_set-to.ensures in (
-      inside.1,
-      c.put_set-to.auto.out ∙ c.loop-ty.invariant.1,
-      omega (arith, sets_length_more c.args.marked _ _ _ more, told.0, c.loop-ty.invariant.2),
-      put_then _ _ _ _ _ _ told.1 told.0 ∙ ap (put _ _) (sym (ap (encode_sets _) more ∙ sets_more _ _ _)) ∙ c.loop-ty.invariant.3,
+pub loop-operation-preserved-then-marks-ty : goal.loop-operation-preserved-then-marks-ty
+loop-operation-preserved-then-marks-ty c =
+    let held = rw (c.in-Some.ensures.steps, c.in-Set.is) at c.loop-operation.invariant in
+    let more = chosen_set c.args.marks c.args.base (left c.next.new.self) _ _ c.in-Set.value.now c.if-marks-ty.true in
+    let told = c.put_set-to.ensures in (
+      c.put_set-to.auto.out ∙ held.0,
+      omega (arith, sets_length_more c.args.marked _ _ _ more, told.0, held.1),
+      put_then _ _ _ _ _ _ told.1 told.0 ∙ ap (put _ _) (sym (ap (encode_sets _) more ∙ sets_more _ _ _)) ∙ held.2,
+      (fit_next (c.in-Set.place + (4 + length c.in-Set.value.now)) (length c.args.list.now) (left c.next.new.self) held.3.1).1,
     )
 
-pub loop-ty-smaller-else-marks-ty : goal.loop-ty-smaller-else-marks-ty
-loop-ty-smaller-else-marks-ty c = omega (arith, set_within _ _ _ c.operation_at.ensures _ _ _ c.in-Set.is)
+pub loop-operation-preserved-else-marks-ty : goal.loop-operation-preserved-else-marks-ty
+loop-operation-preserved-else-marks-ty c =
+    let held = rw (c.in-Some.ensures.steps, c.in-Set.is) at c.loop-operation.invariant in
+    let skip = ap (encode_sets c.args.marked) (sym (chosen_not c.args.marks c.args.base (left c.next.new.self) _ _ c.in-Set.value.now c.if-marks-ty.false)) in
+    (held.0, ap (λ bs. c.loop-operation.to + length bs) skip ∙ held.1, ap (put _ _) skip ∙ held.2, (fit_next (c.in-Set.place + (4 + length c.in-Set.value.now)) (length c.args.list.now) (left c.next.new.self) held.3.1).1)
 
-pub loop-ty-preserved-else-marks-ty : goal.loop-ty-preserved-else-marks-ty
-loop-ty-preserved-else-marks-ty c =
-    let found = c.operation_at.ensures in
-    let skip = chosen_not c.args.marks _ _ _ _ _ _ (set_ops _ _ _ found _ _ _ c.in-Set.is) c.if-marks-ty.false in
-    let same = ap (encode_sets c.args.marked) skip in (
-      (set_within _ _ _ found _ _ _ c.in-Set.is).1,
-      c.loop-ty.invariant.1,
-      omega (arith, ap length same, c.loop-ty.invariant.2),
-      ap (put _ _) (sym same) ∙ c.loop-ty.invariant.3,
-    )
+pub loop-operation-preserved : goal.loop-operation-preserved
+loop-operation-preserved c =
+    let held = rw c.in-Some.ensures.steps at c.loop-operation.invariant in
+    let skip = ap (encode_sets c.args.marked) (sym (chosen_other c.args.marks c.args.base (left c.next.new.self) _ c.in_default.not-Set)) in
+    (held.0, ap (λ bs. c.loop-operation.to + length bs) skip ∙ held.1, ap (put _ _) skip ∙ held.2, (fit_next _ (length c.args.list.now) (left c.next.new.self) held.3.1).1)
 
-pub overflow_add-at : goal.overflow_add-at
-overflow_add-at c = omega (arith, removal_inside _ _ _ c.operation_at.ensures _ c.in-Remove.is)
-
-pub loop-ty-smaller : goal.loop-ty-smaller
-loop-ty-smaller c = omega (arith, removal_inside _ _ _ c.operation_at.ensures _ c.in-Remove.is)
-
-pub loop-ty-preserved : goal.loop-ty-preserved
-loop-ty-preserved c =
-    let found = c.operation_at.ensures in
+pub returns : goal.returns
+returns c =
     let a = c.args in
-    let skip = chosen_removal a.marks a.base _ _ _ _ (removal_ops _ _ _ found _ c.in-Remove.is) in
-    let same = ap (encode_sets a.marked) skip in (
-      removal_inside _ _ _ found _ c.in-Remove.is,
-      c.loop-ty.invariant.1,
-      omega (arith, ap length same, c.loop-ty.invariant.2),
-      ap (put _ _) (sym same) ∙ c.loop-ty.invariant.3,
-    )
-
-pub shape_of-out-in_default : goal.shape_of-out-in_default
-shape_of-out-in_default c = c.loop-ty.invariant.1
-
-pub returns-in_default : goal.returns-in_default
-returns-in_default c =
-    let a = c.args in
-    let none = ap (encode_sets a.marked) (chosen_end a.marks a.base _ _ (turn_none _ _ _ c.operation_at.ensures c.in_default.in_default-own.keys3)) ∙ sets_none _ in
-    let all = ap (encode_sets a.marked) (chosen_start a.marks a.base a.list.now) in (
-      omega (arith, ap length none, ap length all, c.loop-ty.invariant.2),
-      sym (put_none _ _) ∙ ap (put _ _) (sym none) ∙ c.loop-ty.invariant.3 ∙ ap (put _ _) all,
-    )
+    let held = rw (c.in-None.ensures.steps.0, chosen_none, sets_none) at c.loop-operation.invariant in
+    let all = ap (encode_sets a.marked) (chosen_all a.marks a.base a.list.now) in
+    (sym (add-zero _) ∙ held.1 ∙ ap (λ bs. a.from + length bs) all, sym (put_none _ _) ∙ held.2 ∙ ap (put _ _) all)

@@ -1,14 +1,11 @@
 -- `channel_masks::count_mask_items` meets its contract. The invariant: counting on from the place at, with n items passed, gives the answer.
 -- The measure is what is left of the value.
-use mathlib.Core.Path.{◌≡◌, ◌∙◌}
+use mathlib.Core.Path.{◌≡◌}
 use Prim.Native.Nat.{◌-◌, ◌≤◌}
-use native.Mathlib.Omega.{arith}
 use lib.ListN.{length}
-use borrow.Author.Rules.{rules}
-use borrow.Author.Tests.{lt-ltb}
 use Rattle.refusal.specs.Answer.{on_given}
 use Rattle.channel_masks.specs.Mask.{items}
-use Rattle.channel_masks.proofs.Items.{tally, tally_start, turn_end, turn_cut, turn_item, turn_inside}
+use Rattle.channel_masks.proofs.Items.{tally}
 use Rattle.channel_masks.proofs.count_mask_items.Given as goal
 
 abbrev pub invariant-loop-start : goal.invariant-loop-start

@@ -3,7 +3,6 @@ use Prim.Native.Nat.{◌+◌}
 use native.Mathlib.Omega.{arith}
 use borrow.Author.Tests.{le-leb, lt-leb}
 use Rattle.channel_masks.specs.Mask.{item_at}
-use borrow.Author.Rules.{rules}
 use Rattle.channel_masks.proofs.mask_item_at.Goals as goal
 
 pub returns-then-n-at : goal.returns-then-n-at

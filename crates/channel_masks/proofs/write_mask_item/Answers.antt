@@ -2,16 +2,15 @@
 use mathlib.Core.Path.{◌∙◌}
 use native.Mathlib.Omega.{arith}
 use lib.ListN.{length-set}
-use borrow.Author.Rules.{rules}
 use Rattle.laws.proofs.Emits.{emit_refused, emit_no_room}
 use Rattle.channel_masks.proofs.Items.{item_too_long, item_fits, item_emitted}
 use Rattle.channel_masks.proofs.write_mask_item.Goals as goal
 
-pub returns-then-n-gt255 : goal.returns-then-n-gt255
-returns-then-n-gt255 c = emit_refused _ _ _ _ _ (item_too_long _ _ (omega arith))
+pub returns-then-n-gt-MAX_MASK : goal.returns-then-n-gt-MAX_MASK
+returns-then-n-gt-MAX_MASK c = rw c.refuse.ensures (emit_refused _ _ _ _ _ (item_too_long _ _ (omega arith)))
 
 pub returns-then-n-out : goal.returns-then-n-out
-returns-then-n-out c = emit_no_room _ _ _ (item_fits _ _ (omega arith)) (omega arith)
+returns-then-n-out c = rw c.refuse-then-n-out.ensures (emit_no_room _ _ _ (item_fits _ _ (omega arith)) (omega arith))
 
 pub bounds-out-1 : goal.bounds-out-1
 bounds-out-1 c = simp length-set (omega arith)

@@ -1,28 +1,36 @@
 -- `child_lists::child_list` meets its contract, by what the check of the payload answered and by what was found.
-use mathlib.Core.Path.{sym, ap, ◌∙◌}
-use Rattle.tlv.specs.Answers.{counted_answer}
-use Rattle.tlv_last.specs.Answers.{found_answer}
+use mathlib.Core.Path.{ap, ◌∙◌}
+use Rattle.refusal.specs.Answer.{on_given}
+use Rattle.refusal.specs.Results.{found_of}
+use Rattle.refusal.proofs.Papers.{passes}
 use Rattle.diag_entries.specs.Lists.{child_list}
 use Rattle.diag_entries.proofs.Checks.{checked_given, checked_refused}
+use Rattle.child_lists.specs.Answers.{list_paper}
 use Rattle.child_lists.proofs.Lists.{child_found, child_none}
-use borrow.Enum.Refused.{opened}
 use Rattle.child_lists.proofs.child_list.Goals as goal
 
-pub returns-in-Refused : goal.returns-in-Refused
+pub returns-in_err-check_values : goal.returns-in_err-check_values
 unfolding child_list
-returns-in-Refused c = rw (checked_refused _ _ _ _ (sym (ap counted_answer c.in-Refused.is) ∙ c.check_values.ensures))
+returns-in_err-check_values c =
+    rw (passes _ _ c.from_residual.ensures.1, checked_refused _ _ _ _ c.in_err-check_values.ensures)
 
 pub list_at-requires : goal.list_at-requires
 list_at-requires c =
-    let fine = checked_given _ _ (sym (ap counted_answer c.in-Entries.is) ∙ c.check_values.ensures) in
-    (child_found _ _ fine.0 fine.1 _ _ _ (sym (ap found_answer c.in-At.is) ∙ c.nth_child_list.ensures)).0
+    let fine = checked_given _ _ c.in_ok-check_values.ensures in
+    (child_found _ _ fine.0 fine.1 _ _ _ c.in-Some.ensures).0
 
-pub returns-in-At : goal.returns-in-At
-returns-in-At c =
-    let fine = checked_given _ _ (sym (ap counted_answer c.in-Entries.is) ∙ c.check_values.ensures) in
-    c.list_at.ensures ∙ (child_found _ _ fine.0 fine.1 _ _ _ (sym (ap found_answer c.in-At.is) ∙ c.nth_child_list.ensures)).1
+pub returns-in_err-list_at-in-Some : goal.returns-in_err-list_at-in-Some
+returns-in_err-list_at-in-Some c =
+    let fine = checked_given _ _ c.in_ok-check_values.ensures in
+    ap (λ r. on_given (list_paper c.args.payload.now) (found_of r)) (passes _ _ c.from_residual-in_err-list_at-in-Some.ensures.1)
+    ∙ c.in_err-list_at-in-Some.ensures ∙ (child_found _ _ fine.0 fine.1 _ _ _ c.in-Some.ensures).1
 
-pub returns-in_default : goal.returns-in_default
-returns-in_default c =
-    let fine = checked_given _ _ (sym (ap counted_answer c.in-Entries.is) ∙ c.check_values.ensures) in
-    child_none _ _ fine.0 fine.1 c.nth_child_list.result (opened c.in_default.in_default-own.keys2) c.nth_child_list.ensures
+pub returns-in_ok-list_at-in-Some : goal.returns-in_ok-list_at-in-Some
+returns-in_ok-list_at-in-Some c =
+    let fine = checked_given _ _ c.in_ok-check_values.ensures in
+    c.in_ok-list_at-in-Some.ensures ∙ (child_found _ _ fine.0 fine.1 _ _ _ c.in-Some.ensures).1
+
+pub returns-in-None : goal.returns-in-None
+returns-in-None c =
+    let fine = checked_given _ _ c.in_ok-check_values.ensures in
+    child_none _ _ fine.0 fine.1 c.in-None.ensures

@@ -1,16 +1,10 @@
--- `child_lists::nth_child_list` meets its contract. The invariant: of the entries of type 30 from the place at on, the one that is `left` further on is the
--- answer. The measure is what is left of the payload.
+-- `child_lists::nth_child_list` meets its contract. The invariant: of the entries of type 30 that are left, the one that is `left` further on is the answer.
 use mathlib.Core.Path.{◌≡◌}
-use Prim.Native.Nat.{◌-◌, ◌≤◌}
-use lib.ListN.{length}
-use Rattle.tlv.specs.Entries.{framing}
-use Rattle.tlv.proofs.Walks.{from}
+use Rattle.tlv.specs.Walk.{entries_from}
+use Rattle.tlv.specs.Walk as walk
 use Rattle.refusal.specs.Numbered.{nth}
 use Rattle.diag_entries.specs.Parts.{all_of}
 use Rattle.child_lists.proofs.nth_child_list.Given as goal
 
-abbrev pub invariant-loop-place : goal.invariant-loop-place
-invariant-loop-place l = (l.at ≤ length l.payload) × (nth (all_of 30 (from l.payload l.at).entries) l.left ≡ nth (all_of 30 (framing l.payload).entries) l.k)
-
-abbrev pub decreases-loop-place : goal.decreases-loop-place
-decreases-loop-place l = length l.payload - l.at
+abbrev pub invariant-loop-entry : goal.invariant-loop-entry
+invariant-loop-entry l = nth (all_of 30 (walk.left l.entry-iterator)) l.left ≡ nth (all_of 30 (entries_from l.payload l.place)) l.k

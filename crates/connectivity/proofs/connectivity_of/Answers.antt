@@ -7,5 +7,5 @@ use Rattle.connectivity.proofs.connectivity_of.Goals as goal
 
 pub returns : goal.returns
 returns c =
-    let first = to_z-of_z w8 c.priority-first.result (record { sfits = c.priority-first.type_inv }) ∙ c.priority-first.ensures in
-    connectivity_is _ _ _ _ first c.buffer_size-size.ensures c.datagram_count-count.ensures
+    let first = to_z-of_z w8 c.priority.result (record { sfits = c.priority.type_inv }) ∙ c.priority.ensures in
+    connectivity_is _ _ _ _ first c.buffer_size.ensures c.datagram_count.ensures

@@ -1,23 +1,9 @@
--- `dataset::delay_timer` meets its contract, by what `last_entry` answered.
-use mathlib.Core.Path.{refl, ◌∙◌}
-use native.Mathlib.Omega.{arith}
-use native.Mathlib.Nat.{add-sub_cancel_left}
-use Rattle.wire.specs.Be.{fixed}
-use Rattle.dataset.proofs.Finds.{found_inside, query_found, query_none, query_refused}
+-- `dataset::delay_timer` meets its contract, by what its reader promises.
+use mathlib.Core.Path.{refl}
+use Rattle.wire.specs.Be.{be, fixed}
+use Rattle.dataset.proofs.Finds.{query_reads}
 use Rattle.dataset.proofs.delay_timer.Goals as goal
 
-pub overflow_add-start : goal.overflow_add-start
-overflow_add-start c = omega (arith, found_inside _ _ _ c.last_entry.ensures _ _ _ c.in-At.is)
-
-pub slice_bounds-read_u32-end : goal.slice_bounds-read_u32-end
-slice_bounds-read_u32-end c = omega (arith, found_inside _ _ _ c.last_entry.ensures _ _ _ c.in-At.is)
-
-pub returns-in-At : goal.returns-in-At
+pub returns : goal.returns
 unfolding fixed
-returns-in-At c = simp add-sub_cancel_left at c.read_u32.ensures ∙ query_found _ _ _ c.last_entry.ensures _ _ _ c.in-At.is _ _ refl
-
-pub returns-in-Absent : goal.returns-in-Absent
-returns-in-Absent c = query_none _ _ _ c.last_entry.ensures _ c.in-Absent.is
-
-pub returns-in-Refused : goal.returns-in-Refused
-returns-in-Refused c = query_refused _ _ _ c.last_entry.ensures _ _ c.in-Refused.is
+returns c = query_reads _ be 4 (λ v p q h. h) _ 52 _ refl c.last_read.ensures

@@ -1,26 +1,10 @@
--- `dataset::network_key` meets its contract, by what `last_entry` answered.
-use mathlib.Core.Path.{refl, ap, ◌∙◌}
-use native.Mathlib.Omega.{arith}
-use native.Mathlib.Nat.{add-sub_cancel_left}
-use Rattle.plain_values.specs.Plain.{zeros, copied}
-use Rattle.dataset.proofs.Finds.{found_inside, query_whole, query_none, query_refused}
+-- `dataset::network_key` meets its contract, by what its reader promises.
+use mathlib.Core.Path.{refl, sym, ◌∙◌}
+use mathlib.Core.List.{List}
+use Prim.Native.Nat.{ℕ}
+use Rattle.laws.proofs.Answers.{on_itself}
+use Rattle.dataset.proofs.Finds.{query_reads}
 use Rattle.dataset.proofs.network_key.Goals as goal
 
-pub overflow_add-start : goal.overflow_add-start
-overflow_add-start c = omega (arith, found_inside _ _ _ c.last_entry.ensures _ _ _ c.in-At.is)
-
-pub slice_bounds-read_array_16-end : goal.slice_bounds-read_array_16-end
-slice_bounds-read_array_16-end c = omega (arith, found_inside _ _ _ c.last_entry.ensures _ _ _ c.in-At.is)
-
-pub returns-in-At : goal.returns-in-At
-returns-in-At c =
-    simp add-sub_cancel_left at c.read_array_16.ensures
-    ∙ ap (copied 16) (query_whole _ _ _ c.last_entry.ensures _ _ _ c.in-At.is _ refl)
-
-pub returns-in-Absent : goal.returns-in-Absent
-unfolding copied zeros
-returns-in-Absent c = ap (copied 16) (query_none _ _ _ c.last_entry.ensures _ c.in-Absent.is)
-
-pub returns-in-Refused : goal.returns-in-Refused
-unfolding copied zeros
-returns-in-Refused c = ap (copied 16) (query_refused _ _ _ c.last_entry.ensures _ _ c.in-Refused.is)
+pub returns : goal.returns
+returns c = query_reads _ (λ (v : List ℕ). v) 16 (λ v p q h. h ∙ sym (on_itself _)) _ 5 _ refl c.last_read.ensures

@@ -1,21 +1,8 @@
--- `dataset::security_policy` meets its contract, by what `last_entry` answered.
-use mathlib.Core.Path.{refl, ◌∙◌}
-use native.Mathlib.Omega.{arith}
-use native.Mathlib.Nat.{add-sub_cancel_left}
-use Rattle.dataset.proofs.Finds.{found_inside, query_found, query_none, query_refused}
+-- `dataset::security_policy` meets its contract, by what its reader promises.
+use mathlib.Core.Path.{refl}
+use Rattle.values.specs.Typed.{policy_of}
+use Rattle.dataset.proofs.Finds.{query_reads}
 use Rattle.dataset.proofs.security_policy.Goals as goal
 
-pub overflow_add-start : goal.overflow_add-start
-overflow_add-start c = omega (arith, found_inside _ _ _ c.last_entry.ensures _ _ _ c.in-At.is)
-
-pub slice_bounds-parse-end : goal.slice_bounds-parse-end
-slice_bounds-parse-end c = omega (arith, found_inside _ _ _ c.last_entry.ensures _ _ _ c.in-At.is)
-
-pub returns-in-At : goal.returns-in-At
-returns-in-At c = simp add-sub_cancel_left at c.parse.ensures ∙ query_found _ _ _ c.last_entry.ensures _ _ _ c.in-At.is _ _ refl
-
-pub returns-in-Absent : goal.returns-in-Absent
-returns-in-Absent c = query_none _ _ _ c.last_entry.ensures _ c.in-Absent.is
-
-pub returns-in-Refused : goal.returns-in-Refused
-returns-in-Refused c = query_refused _ _ _ c.last_entry.ensures _ _ c.in-Refused.is
+pub returns : goal.returns
+returns c = query_reads _ policy_of 4 (λ v p q h. h) _ 12 _ refl c.last_read.ensures

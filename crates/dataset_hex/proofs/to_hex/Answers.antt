@@ -1,4 +1,5 @@
 -- `dataset_hex::to_hex` meets its contract: the scratch holds whatever is written afresh.
+use Rattle.refusal.proofs.Papers.{passes}
 use native.Mathlib.Omega.{arith}
 use Rattle.laws.proofs.Emits.{emit_refused}
 use Rattle.laws.proofs.Callers.{gave_inside}
@@ -8,12 +9,12 @@ use borrow.Author.Rules.{rules}
 use Rattle.dataset_hex.proofs.to_hex.Goals as goal
 
 pub slice_bounds-encode-end : goal.slice_bounds-encode-end
-slice_bounds-encode-end c = omega (arith, gave_inside _ _ _ _ (rw c.in-Bytes.is at c.rewrite.ensures))
+slice_bounds-encode-end c = omega (arith, gave_inside _ _ _ _ (c.in_ok-n.ensures))
 
-pub returns-in-Refused : goal.returns-in-Refused
-returns-in-Refused c =
+pub returns-in_err-n : goal.returns-in_err-n
+returns-in_err-n c =
     let small = every_byte c.args.s.now (λ i. (c.type_inv.s i).fits) in
-    emit_refused _ _ _ _ _ (to_hex_refused _ _ _ small (search rules) _ _ _ (rw c.in-Refused.is at c.rewrite.ensures))
+    rw (passes _ _ c.from_residual.ensures.1) (emit_refused _ _ _ _ _ (to_hex_refused _ _ _ small (search rules) _ _ _ c.in_err-n.ensures))
 
-pub returns-in-Bytes : goal.returns-in-Bytes
-returns-in-Bytes c = rw (to_hex_given _ _ _ _ (rw c.in-Bytes.is at c.rewrite.ensures)) c.encode.ensures
+pub returns : goal.returns
+returns c = rw (to_hex_given _ _ _ _ (c.in_ok-n.ensures)) c.encode.ensures

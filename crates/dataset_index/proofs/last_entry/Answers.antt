@@ -1,11 +1,12 @@
 -- `dataset_index::last_entry` meets its contract. Assumes nothing.
 use mathlib.Core.Path.{sym, ◌∙◌}
 use native.Mathlib.Omega.{arith}
+use Rattle.refusal.proofs.Papers.{refuses_found}
 use Rattle.dataset_index.proofs.Queries.{framed_long, query_large, query_misframed, query_absent, query_led}
 use Rattle.dataset_index.proofs.last_entry.Goals as goal
 
 pub returns-then-dataset-gt-MAX_BYTES : goal.returns-then-dataset-gt-MAX_BYTES
-returns-then-dataset-gt-MAX_BYTES c = query_large _ _ _ c.if-dataset-gt-MAX_BYTES.true
+returns-then-dataset-gt-MAX_BYTES c = refuses_found _ _ _ _ c.refuse.ensures ∙ query_large _ _ _ c.if-dataset-gt-MAX_BYTES.true
 
 pub two_at-requires : goal.two_at-requires
 two_at-requires c = omega (arith, framed_long _ (sym c.is_framed.ensures ∙ c.if-is_framed.true))
@@ -24,4 +25,5 @@ returns-then-is_framed c =
 
 pub returns : goal.returns
 returns c =
-    rw c.wrong_index.ensures (query_misframed _ _ _ c.if-dataset-gt-MAX_BYTES.false (sym c.is_framed.ensures ∙ c.if-is_framed.false))
+    refuses_found _ _ _ _ c.wrong_index.ensures
+    ∙ query_misframed _ _ _ c.if-dataset-gt-MAX_BYTES.false (sym c.is_framed.ensures ∙ c.if-is_framed.false)

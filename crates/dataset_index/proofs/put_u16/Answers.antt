@@ -10,7 +10,7 @@ use Rattle.dataset_index.proofs.put_u16.Goals as goal
 
 pub returns : goal.returns
 returns c =
-    let is = c.u16_bytes-bytes.ensures in
+    let is = c.u16_bytes.ensures in
     let size = ap length is ∙ length_bytes 2 _ in (
       placed_next _ _ _ _ _ c.put_bytes.ensures (omega (arith, size)) ∙ ap (◌+◌ _) size,
       placed_left _ _ _ _ _ c.put_bytes.ensures (omega (arith, size)) ∙ ap (put _ _) is,

@@ -1,38 +1,30 @@
 -- `dataset_parts::channel_mask` meets its contract, by what `last_entry` and then `count_mask_items` answered.
-use mathlib.Core.Path.{sym, ap, ◌∙◌}
+use mathlib.Core.Path.{ap, ◌∙◌}
 use native.Mathlib.Omega.{arith}
 use native.Mathlib.Nat.{add-sub_cancel_left}
-use Rattle.channel_masks.specs.Mask.{mask_answer}
-use Rattle.dataset_parts.specs.Parts.{mask_spot}
-use Rattle.dataset.proofs.Finds.{found_inside, none_found, found_refused}
-use Rattle.dataset_parts.proofs.Keeps.{mask_told}
+use Rattle.refusal.specs.Results.{found_of}
+use Rattle.refusal.proofs.Papers.{passes}
+use Rattle.dataset.proofs.Finds.{found_inside}
+use Rattle.dataset_parts.proofs.Keeps.{mask_counted, mask_refused, no_mask, no_mask_of}
 use Rattle.dataset_parts.proofs.channel_mask.Goals as goal
 
-pub overflow_add-end : goal.overflow_add-end
-overflow_add-end c = omega (arith, found_inside _ _ _ c.last_entry.ensures _ _ _ c.in-At.is)
+pub returns-in_err-place : goal.returns-in_err-place
+returns-in_err-place c = ap found_of (passes _ _ c.from_residual.ensures.1) ∙ no_mask_of _ _ _ _ c.in_err-place.ensures
+
+pub overflow_add-start : goal.overflow_add-start
+overflow_add-start c = omega (arith, found_inside _ _ _ _ _ (rw c.in-Some.is at c.in_ok-place.ensures))
 
 pub slice_bounds-count_mask_items-end : goal.slice_bounds-count_mask_items-end
-slice_bounds-count_mask_items-end c = omega (arith, found_inside _ _ _ c.last_entry.ensures _ _ _ c.in-At.is)
+slice_bounds-count_mask_items-end c = omega (arith, found_inside _ _ _ _ _ (rw c.in-Some.is at c.in_ok-place.ensures))
 
-pub returns-in-Items : goal.returns-in-Items
-returns-in-Items c =
-    let told = simp add-sub_cancel_left at c.count_mask_items.ensures in
-    mask_told _ _ c.last_entry.ensures _ _ _ c.in-At.is _ (sym (ap mask_answer c.in-Items.is) ∙ told)
+pub returns-in_err-items-in-Some : goal.returns-in_err-items-in-Some
+returns-in_err-items-in-Some c =
+    ap found_of (passes _ _ c.from_residual-in_err-items-in-Some.ensures.1)
+    ∙ mask_refused _ _ _ _ (rw c.in-Some.is at c.in_ok-place.ensures) _ _ _ (simp add-sub_cancel_left at c.in_err-items-in-Some.ensures)
 
-pub returns-in-Absent-count_mask_items : goal.returns-in-Absent-count_mask_items
-returns-in-Absent-count_mask_items c =
-    let told = simp add-sub_cancel_left at c.count_mask_items.ensures in
-    mask_told _ _ c.last_entry.ensures _ _ _ c.in-At.is _ (sym (ap mask_answer c.in-Absent-count_mask_items.is) ∙ told)
+pub returns-in_ok-items-in-Some : goal.returns-in_ok-items-in-Some
+returns-in_ok-items-in-Some c =
+    mask_counted _ _ _ _ (rw c.in-Some.is at c.in_ok-place.ensures) _ (simp add-sub_cancel_left at c.in_ok-items-in-Some.ensures)
 
-pub returns-in-Refused-count_mask_items : goal.returns-in-Refused-count_mask_items
-returns-in-Refused-count_mask_items c =
-    let told = simp add-sub_cancel_left at c.count_mask_items.ensures in
-    mask_told _ _ c.last_entry.ensures _ _ _ c.in-At.is _ (sym (ap mask_answer c.in-Refused-count_mask_items.is) ∙ told)
-
-pub returns-in-Absent : goal.returns-in-Absent
-unfolding mask_spot
-returns-in-Absent c = none_found _ _ _ c.last_entry.ensures _ c.in-Absent.is
-
-pub returns-in-Refused : goal.returns-in-Refused
-unfolding mask_spot
-returns-in-Refused c = found_refused _ _ _ c.last_entry.ensures _ _ c.in-Refused.is
+pub returns-in-None : goal.returns-in-None
+returns-in-None c = no_mask _ (rw c.in-None.is at c.in_ok-place.ensures)

@@ -1,15 +1,13 @@
 -- `delay::delay_or` meets its contract, by what `delay_timer` answered.
-use mathlib.Core.Path.{sym, ap, ◌∙◌}
-use Rattle.refusal.specs.Answer.{given, absent, refused}
-use Rattle.wire.specs.Be.{answer32}
-use Rattle.delay.proofs.Cases.{working_by}
+use mathlib.Core.Path.{ap, ◌∙◌}
+use Rattle.refusal.specs.Answer.{given}
+use Rattle.refusal.specs.Results.{answer_of}
+use Rattle.refusal.proofs.Papers.{passes}
+use Rattle.delay.proofs.Cases.{working_by, working_or}
 use Rattle.delay.proofs.delay_or.Goals as goal
 
-pub returns-in-Value : goal.returns-in-Value
-returns-in-Value c = working_by _ _ (given _) (sym (ap answer32 c.in-Value.is) ∙ c.delay_timer.ensures)
+pub returns-in_err-timer : goal.returns-in_err-timer
+returns-in_err-timer c = ap answer_of (passes _ _ c.from_residual.ensures.1) ∙ working_by _ _ _ c.in_err-timer.ensures
 
-pub returns-in-Absent : goal.returns-in-Absent
-returns-in-Absent c = working_by _ _ absent (sym (ap answer32 c.in-Absent.is) ∙ c.delay_timer.ensures)
-
-pub returns-in-Refused : goal.returns-in-Refused
-returns-in-Refused c = working_by _ _ (refused _ _ _) (sym (ap answer32 c.in-Refused.is) ∙ c.delay_timer.ensures)
+pub returns : goal.returns
+returns c = ap given c.unwrap_or.ensures ∙ working_or _ _ _ c.in_ok-timer.ensures

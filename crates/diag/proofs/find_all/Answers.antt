@@ -1,40 +1,29 @@
--- `diag::find_all` meets its contract. The invariant: what is noted and the entries from the place at on give the last entry of each type and
--- their number. The measure is what is left of the payload.
-use mathlib.Core.Path.{ap}
+-- `diag::find_all` meets its contract.
+use mathlib.Core.Path.{ap, ◌∙◌}
 use native.Mathlib.Omega.{arith}
-use borrow.Author.Rules.{rules}
-use Rattle.tlv.specs.Entries.{Framing}
-use Rattle.tlv.proofs.Walks.{from_start, turn_entries, turn_none, turn_inside}
-use Rattle.diag.proofs.Finds.{find_start, find_more, find_skip, find_end}
-use borrow.Enum.Refused.{opened}
+use Rattle.tlv.specs.Walk.{left}
+use Rattle.diag.proofs.Finds.{find_start, find_more, find_skip, find_list, find_other, find_end}
 use Rattle.diag.proofs.find_all.Goals as goal
+use Rattle.diag.proofs.find_all.Goals.{then-entry-lt32, else-entry-lt32}
 
-pub loop-ty-init : goal.loop-ty-init
-loop-ty-init c = (search rules, find_start _ _ (ap (λ (w : Framing). w.entries) (from_start _)))
+pub loop-entry-init : goal.loop-entry-init
+loop-entry-init c = find_start _ _ (ap left c.into_iter-entry-iterator.ensures.into_iter_gives ∙ c.entries-entry-items.ensures)
 
-pub overflow_add-next : goal.overflow_add-next
-overflow_add-next c = omega (arith, turn_inside _ _ _ c.frame_at.ensures _ _ _ c.in-Entry.is)
+pub loop-entry-preserved-then-entry-eq-CHILD_IPV6_ADDRESSES : goal.loop-entry-preserved-then-entry-eq-CHILD_IPV6_ADDRESSES
+loop-entry-preserved-then-entry-eq-CHILD_IPV6_ADDRESSES c =
+    let count = find_list _ _ _ _ _ _ c.in-Some.ensures.steps c.loop-entry.invariant c.if-entry-eq-CHILD_IPV6_ADDRESSES.true in
+    elim c.if-entry-lt32.branch [
+      | then-entry-lt32 w ↦ rw w.p-is (find_more _ _ _ _ _ _ c.in-Some.ensures.steps c.loop-entry.invariant _ count (omega arith) w.if-entry-lt32.true)
+      | else-entry-lt32 w ↦ rw w.p-is (find_skip _ _ _ _ _ _ c.in-Some.ensures.steps c.loop-entry.invariant _ count (omega arith) w.if-entry-lt32.false)
+    ]
 
-pub overflow_add-p : goal.overflow_add-p
-overflow_add-p c = omega (arith, c.loop-ty.invariant.1.few _ c.if-t-lt32.true)
+pub loop-entry-preserved : goal.loop-entry-preserved
+loop-entry-preserved c =
+    let count = find_other _ _ _ _ _ _ c.in-Some.ensures.steps c.loop-entry.invariant c.if-entry-eq-CHILD_IPV6_ADDRESSES.false in
+    elim c.if-entry-lt32.branch [
+      | then-entry-lt32 w ↦ rw w.p-is (find_more _ _ _ _ _ _ c.in-Some.ensures.steps c.loop-entry.invariant _ count (omega arith) w.if-entry-lt32.true)
+      | else-entry-lt32 w ↦ rw w.p-is (find_skip _ _ _ _ _ _ c.in-Some.ensures.steps c.loop-entry.invariant _ count (omega arith) w.if-entry-lt32.false)
+    ]
 
-pub loop-ty-smaller-then-t-lt32 : goal.loop-ty-smaller-then-t-lt32
-loop-ty-smaller-then-t-lt32 c = omega (arith, turn_inside _ _ _ c.frame_at.ensures _ _ _ c.in-Entry.is)
-
-pub loop-ty-preserved-then-t-lt32 : goal.loop-ty-preserved-then-t-lt32
-loop-ty-preserved-then-t-lt32 c =
-    let inside = turn_inside _ _ _ c.frame_at.ensures _ _ _ c.in-Entry.is in
-    let entries = turn_entries _ _ _ c.frame_at.ensures _ _ _ c.in-Entry.is in
-    (inside.1, find_more _ _ _ _ _ _ _ _ _ _ _ _ inside.1 (omega (arith, inside)) entries c.loop-ty.invariant.1 c.if-t-lt32.true)
-
-pub loop-ty-smaller : goal.loop-ty-smaller
-loop-ty-smaller c = omega (arith, turn_inside _ _ _ c.frame_at.ensures _ _ _ c.in-Entry.is)
-
-pub loop-ty-preserved : goal.loop-ty-preserved
-loop-ty-preserved c =
-    let inside = turn_inside _ _ _ c.frame_at.ensures _ _ _ c.in-Entry.is in
-    let entries = turn_entries _ _ _ c.frame_at.ensures _ _ _ c.in-Entry.is in
-    (inside.1, find_skip _ _ _ _ _ _ _ _ _ _ _ _ inside.1 (omega (arith, inside)) entries c.loop-ty.invariant.1 c.if-t-lt32.false)
-
-pub returns-in_default : goal.returns-in_default
-returns-in_default c = find_end _ _ _ _ (turn_none _ _ _ c.frame_at.ensures (opened c.in_default.in_default-own.keys2)) c.loop-ty.invariant.1
+pub returns : goal.returns
+returns c = find_end _ _ _ c.in-None.ensures.steps.0 c.loop-entry.invariant

@@ -52,13 +52,13 @@ pub returns-in-23 : goal.returns-in-23
 unfolding keeps_rule
 returns-in-23 c = simp c.in-23.is
 
-pub returns-then-n-lt2 : goal.returns-then-n-lt2
+pub returns-else-n-ge2 : goal.returns-else-n-ge2
 unfolding keeps_rule
-returns-then-n-lt2 c = simp (c.in-30.is, lt-leb _ _ c.if-n-lt2.true)
+returns-else-n-ge2 c = simp (c.in-30.is, lt-leb _ _ c.if-n-ge2.false)
 
-pub returns-else-n-lt2 : goal.returns-else-n-lt2
+pub returns-then-n-ge2 : goal.returns-then-n-ge2
 unfolding keeps_rule
-returns-else-n-lt2 c = simp (c.in-30.is, le-leb _ _ c.if-n-lt2.false)
+returns-then-n-ge2 c = simp (c.in-30.is, le-leb _ _ c.if-n-ge2.true)
 
 pub returns-in_default : goal.returns-in_default
 returns-in_default c =

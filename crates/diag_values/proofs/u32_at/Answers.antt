@@ -1,7 +1,7 @@
 -- `diag_values::u32_at` meets its contract.
-use Rattle.diag_values.proofs.Numbers.{four_of}
-use native.Mathlib.Omega.{arith}
+use mathlib.Core.Path.{◌∙◌}
+use Rattle.diag_values.proofs.Numbers.{four_spell}
 use Rattle.diag_values.proofs.u32_at.Goals as goal
 
 pub returns : goal.returns
-returns c = four_of _ _ _ _ _ c.requires c.u16_at.ensures c.u16_at-2.ensures (omega arith)
+returns c = c.from_be_bytes.ensures ∙ four_spell _ _ c.requires

@@ -1,6 +1,7 @@
 // The text of a change list: how many operations, then each.
-use crate::texts::{Room, part_of, put_byte, put_hex, put_number, put_one, put_refusal, put_text};
-use change_lists::{CountedOps, OpFrame};
+use crate::answers::put_given;
+use crate::texts::{Room, put_byte, put_hex, put_number, put_refusal, put_text};
+use change_lists::Operation;
 
 fn put_set(text: &mut Room, at: usize, ty: u8, value: &[u8]) -> usize {
     let mark = put_text(text, at, b" s:");
@@ -16,31 +17,25 @@ fn put_removal(text: &mut Room, at: usize, ty: u8) -> usize {
 
 fn put_operations(text: &mut Room, at: usize, list: &[u8]) -> usize {
     let mut next = at;
-    let mut place: usize = 0;
-    loop {
-        match change_lists::operation_at(list, place) {
-            OpFrame::Set { ty, start, len } => {
-                let end = start + len;
-                next = put_set(text, next, ty, part_of(list, start, end));
-                place = end;
-            }
-            OpFrame::Remove { ty } => {
-                next = put_removal(text, next, ty);
-                place += 3;
-            }
-            _ => {
-                return next;
-            }
-        }
+    for operation in change_lists::operations(list) {
+        next = match operation {
+            Operation::Set {
+                place: _,
+                ty,
+                value,
+            } => put_set(text, next, ty, value),
+            Operation::Remove { place: _, ty } => put_removal(text, next, ty),
+        };
     }
+    next
 }
 
 pub(crate) fn put_list(text: &mut Room, at: usize, list: &[u8]) -> usize {
     match change_lists::count_operations(list, 0) {
-        CountedOps::Operations(n) => {
-            let count = put_one(text, at, n as u64);
+        Ok(n) => {
+            let count = put_given(text, at, n);
             put_operations(text, count, list)
         }
-        CountedOps::Refused(r) => put_refusal(text, at, r),
+        Err(r) => put_refusal(text, at, r),
     }
 }

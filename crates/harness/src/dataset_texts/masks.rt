@@ -1,9 +1,9 @@
 // The text of a channel mask: how many items, then page and bytes of each.
-use crate::texts::{
-    Room, part_of, put_absent, put_byte, put_hex, put_marked, put_one, put_refusal,
-};
-use channel_masks::{MaskItem, ReadMask};
-use dataset_parts::FoundMask;
+use crate::answers::put_given;
+use crate::texts::{Room, part_of, put_absent, put_byte, put_hex, put_marked, put_refusal};
+use channel_masks::MaskItem;
+use dataset_parts::MaskSpot;
+use refusal::Refusal;
 
 fn put_item(text: &mut Room, at: usize, page: u8, mask: &[u8]) -> usize {
     let first = put_marked(text, at, b' ', page as usize);
@@ -28,27 +28,31 @@ fn put_items(text: &mut Room, at: usize, value: &[u8]) -> usize {
     }
 }
 
-pub(crate) fn put_mask(text: &mut Room, at: usize, count: ReadMask, value: &[u8]) -> usize {
+pub(crate) fn put_mask(
+    text: &mut Room,
+    at: usize,
+    count: Result<usize, Refusal>,
+    value: &[u8],
+) -> usize {
     match count {
-        ReadMask::Items(n) => {
-            let items = put_one(text, at, n as u64);
+        Ok(n) => {
+            let items = put_given(text, at, n);
             put_items(text, items, value)
         }
-        ReadMask::Absent => put_absent(text, at),
-        ReadMask::Refused(r) => put_refusal(text, at, r),
+        Err(r) => put_refusal(text, at, r),
     }
 }
 
 // The mask of a dataset, as one by itself.
-pub(crate) fn put_found_mask(text: &mut Room, at: usize, found: FoundMask, value: &[u8]) -> usize {
+pub(crate) fn put_found_mask(
+    text: &mut Room,
+    at: usize,
+    found: Result<Option<MaskSpot>, Refusal>,
+    value: &[u8],
+) -> usize {
     match found {
-        FoundMask::At {
-            place: _,
-            start: _,
-            len: _,
-            items,
-        } => put_mask(text, at, ReadMask::Items(items), value),
-        FoundMask::Absent => put_absent(text, at),
-        FoundMask::Refused(r) => put_refusal(text, at, r),
+        Ok(Some(spot)) => put_mask(text, at, Ok(spot.items), value),
+        Ok(None) => put_absent(text, at),
+        Err(r) => put_refusal(text, at, r),
     }
 }

@@ -1,31 +1,34 @@
 // A security policy in a named form: `pol.v`, `pol.q`, `pol.thr`, `pol.set`.
+use crate::answers::{Put, put_found, put_read};
 use crate::built_texts::{put_version, version_of};
 use crate::edit_texts::lent::changed;
 use crate::requests::{Values, asks};
-use crate::texts::{
-    PATTERN, Room, part_of, put_absent, put_dirty, put_hex, put_refusal, put_text, put_three,
-};
+use crate::texts::{PATTERN, Room, part_of, put_dirty, put_hex, put_refusal, put_text, put_triple};
 use policy_flags::ThreadProtocolVersion;
-use policy_forms::{
-    EitherPolicy, PolicyForm, ReadEither, StatedThreshold, ThresholdSet, security_policy,
-};
-use refusal::Written;
+use policy_forms::{EitherPolicy, PolicyForm, security_policy};
 
 // How many bytes it has, rotation and flags.
-fn put_either(text: &mut Room, at: usize, policy: EitherPolicy) -> usize {
-    match policy {
-        EitherPolicy::Three(p) => { put_three(text, at, 3, p.rotation_time as u64, p.flags as u64) }
-        EitherPolicy::Four(p) => {
-            let flags = p.flags;
-            put_three(text, at, 4, p.rotation_time as u64, flags.bits() as u64)
+impl Put for EitherPolicy {
+    fn put(self, text: &mut Room, at: usize) -> usize {
+        match self {
+            EitherPolicy::Three(p) => {
+                put_triple(text, at, 3, u64::from(p.rotation_time), u64::from(p.flags))
+            }
+            EitherPolicy::Four(p) => put_triple(
+                text,
+                at,
+                4,
+                u64::from(p.rotation_time),
+                u64::from(p.flags.bits()),
+            ),
         }
     }
 }
 
-fn put_stated(text: &mut Room, at: usize, stated: StatedThreshold) -> usize {
+fn put_stated(text: &mut Room, at: usize, stated: Option<ThreadProtocolVersion>) -> usize {
     match stated {
-        StatedThreshold::Version(version) => put_version(text, at, version),
-        StatedThreshold::NoneStated => put_text(text, at, b"ok none-stated"),
+        Some(version) => put_version(text, at, version),
+        None => put_text(text, at, b"ok none-stated"),
     }
 }
 
@@ -33,67 +36,48 @@ fn put_stated(text: &mut Room, at: usize, stated: StatedThreshold) -> usize {
 fn put_back(text: &mut Room, at: usize, policy: EitherPolicy) -> usize {
     let mut lent = [PATTERN; 8];
     match policy.write(&mut lent) {
-        Written::Bytes(n) => {
+        Ok(n) => {
             let end = put_hex(text, at, part_of(&lent, 0, n));
             put_dirty(text, end, changed(&lent, n))
         }
-        Written::Refused(r) => put_refusal(text, at, r),
+        Err(r) => put_refusal(text, at, r),
     }
 }
 
-fn put_threshold_set(text: &mut Room, at: usize, set: ThresholdSet) -> usize {
+fn put_set(text: &mut Room, at: usize, set: Result<EitherPolicy, EitherPolicy>) -> usize {
     match set {
-        ThresholdSet::Set(policy) => {
+        Ok(policy) => {
             let word = put_text(text, at, b"ok set ");
             put_back(text, word, policy)
         }
-        ThresholdSet::NoneStated(policy) => {
+        Err(policy) => {
             let word = put_text(text, at, b"ok none-stated ");
             put_back(text, word, policy)
         }
     }
 }
 
-// What is asked of a policy that was read.
-#[derive(Clone, Copy)]
-enum Asked {
-    Numbers,
-    Threshold,
-    Set(ThreadProtocolVersion),
-}
-
-fn put_asked(text: &mut Room, at: usize, asked: Asked, policy: EitherPolicy) -> usize {
-    match asked {
-        Asked::Numbers => put_either(text, at, policy),
-        Asked::Threshold => put_stated(text, at, policy.version_threshold_for_routing()),
-        Asked::Set(version) => {
-            put_threshold_set(text, at, policy.set_version_threshold_for_routing(version))
-        }
-    }
-}
-
-fn put_read(text: &mut Room, at: usize, asked: Asked, read: ReadEither) -> usize {
-    match read {
-        ReadEither::Value(policy) => put_asked(text, at, asked, policy),
-        ReadEither::Absent => put_absent(text, at),
-        ReadEither::Refused(r) => put_refusal(text, at, r),
-    }
-}
-
 fn form_texts(request: &Room, v: Values, form: PolicyForm, text: &mut Room, at: usize) -> usize {
     let s = v.bytes(request, 2);
     if asks(request, b"pol.q tb") {
-        return put_read(text, at, Asked::Numbers, security_policy(s, form));
+        return put_found(text, at, security_policy(s, form));
     }
     let read = EitherPolicy::parse(s, form, 0);
     if asks(request, b"pol.v tb") {
-        return put_read(text, at, Asked::Numbers, read);
+        return put_read(text, at, read);
     }
     if asks(request, b"pol.thr tb") {
-        return put_read(text, at, Asked::Threshold, read);
+        return match read {
+            Ok(policy) => put_stated(text, at, policy.version_threshold_for_routing()),
+            Err(r) => put_refusal(text, at, r),
+        };
     }
     if asks(request, b"pol.set tbv") {
-        return put_read(text, at, Asked::Set(version_of(v.number(3))), read);
+        let version = version_of(v.number(3));
+        return match read {
+            Ok(policy) => put_set(text, at, policy.set_version_threshold_for_routing(version)),
+            Err(r) => put_refusal(text, at, r),
+        };
     }
     at
 }

@@ -1,51 +1,34 @@
 // Calls on times, `wdelay` and `due` of a pending dataset, `wdelay30` and `due30` by the old number, and `ts.parts` of a timestamp, and on a
 // change list, `ops`.
+use crate::answers::put_read;
 use crate::dataset_texts::lists::put_list;
 use crate::dataset_texts::policies::policy_texts;
-use crate::dataset_texts::typed::put_timestamp;
 use crate::requests::{Values, asks};
-use crate::texts::{Room, put_one, put_refusal};
-use delay::{
-    DueSecond, WorkingDelay, due_second, due_second_half_minute, working_delay,
-    working_delay_half_minute,
-};
+use crate::texts::Room;
+use delay::{due_second, due_second_half_minute, working_delay, working_delay_half_minute};
 use timestamps::Timestamp;
-
-fn put_working_delay(text: &mut Room, at: usize, delay: WorkingDelay) -> usize {
-    match delay {
-        WorkingDelay::Milliseconds(ms) => put_one(text, at, ms as u64),
-        WorkingDelay::Refused(r) => put_refusal(text, at, r),
-    }
-}
-
-fn put_due_second(text: &mut Room, at: usize, due: DueSecond) -> usize {
-    match due {
-        DueSecond::Second(second) => put_one(text, at, second),
-        DueSecond::Refused(r) => put_refusal(text, at, r),
-    }
-}
 
 // A timestamp has eight bytes, and a request with another number of them is for no call.
 fn put_parts(text: &mut Room, at: usize, value: &[u8]) -> usize {
     if value.len() != 8 {
         return at;
     }
-    put_timestamp(text, at, Timestamp::parse(value, 0))
+    put_read(text, at, Timestamp::parse(value, 0))
 }
 
 pub(crate) fn time_texts(request: &Room, v: Values, text: &mut Room, at: usize) -> usize {
     let s = v.bytes(request, 1);
     if asks(request, b"wdelay b") {
-        return put_working_delay(text, at, working_delay(s));
+        return put_read(text, at, working_delay(s));
     }
     if asks(request, b"wdelay30 b") {
-        return put_working_delay(text, at, working_delay_half_minute(s));
+        return put_read(text, at, working_delay_half_minute(s));
     }
     if asks(request, b"due bn") {
-        return put_due_second(text, at, due_second(s, v.number(2)));
+        return put_read(text, at, due_second(s, v.number(2)));
     }
     if asks(request, b"due30 bn") {
-        return put_due_second(text, at, due_second_half_minute(s, v.number(2)));
+        return put_read(text, at, due_second_half_minute(s, v.number(2)));
     }
     if asks(request, b"ts.parts b") {
         return put_parts(text, at, s);

@@ -1,8 +1,8 @@
 // The pairing of a payload: how many rows, then what is said of each.
-use crate::requests::least;
-use crate::texts::{Room, put_dirty, put_number, put_one, put_refusal, put_text};
+use crate::answers::put_given;
+use crate::texts::{Room, put_dirty, put_number, put_refusal, put_text};
 use pair_rule::Pairing;
-use pairing::Answered;
+use refusal::Refusal;
 
 // What the answers that are lent are filled with: the number of no list.
 const PATTERN: u16 = 0xA5A5;
@@ -12,14 +12,7 @@ const PLACES: usize = refusal::MAX_BYTES / 3 + 1;
 
 // Whether anything from a place on is no longer the pattern.
 fn changed(lent: &[u16], from: usize) -> bool {
-    let mut i = from;
-    while i < lent.len() {
-        if lent[i] != PATTERN {
-            return true;
-        }
-        i += 1;
-    }
-    false
+    lent.iter().skip(from).any(|code| *code != PATTERN)
 }
 
 fn put_pairing(text: &mut Room, at: usize, code: u16) -> usize {
@@ -35,25 +28,25 @@ fn put_pairing(text: &mut Room, at: usize, code: u16) -> usize {
 
 fn put_pairings(text: &mut Room, at: usize, codes: &[u16], n: usize) -> usize {
     let mut next = at;
-    let mut k = 0;
-    while k < n {
-        if k >= codes.len() {
-            return next;
-        }
-        next = put_pairing(text, next, codes[k]);
-        k += 1;
+    for code in codes.iter().take(n) {
+        next = put_pairing(text, next, *code);
     }
     next
 }
 
-fn put_answered(text: &mut Room, at: usize, answered: Answered, lent: &[u16]) -> usize {
+fn put_answered(
+    text: &mut Room,
+    at: usize,
+    answered: Result<usize, Refusal>,
+    lent: &[u16],
+) -> usize {
     match answered {
-        Answered::Rows(n) => {
-            let count = put_one(text, at, n as u64);
+        Ok(n) => {
+            let count = put_given(text, at, n);
             let end = put_pairings(text, count, lent, n);
             put_dirty(text, end, changed(lent, n))
         }
-        Answered::Refused(r) => {
+        Err(r) => {
             let end = put_refusal(text, at, r);
             put_dirty(text, end, changed(lent, 0))
         }
@@ -61,7 +54,7 @@ fn put_answered(text: &mut Room, at: usize, answered: Answered, lent: &[u16]) ->
 }
 
 fn put_paired(text: &mut Room, at: usize, payload: &[u8], codes: &mut [u16], cap: u64) -> usize {
-    let n = least(cap as usize, codes.len());
+    let n = codes.len().min(cap as usize);
     let answered = pairing::pair(payload, &mut codes[0..n]);
     put_answered(text, at, answered, &codes[0..n])
 }

@@ -3,13 +3,13 @@ use crate::diag_texts::put_fields;
 use crate::network_texts::{filled, places, put_left};
 use crate::requests::{Values, asks};
 use crate::texts::{Room, put_refusal};
-use diag::{Decoded, OptNetworkData};
+use diag::NetworkDataPart;
 use network_data::Counts;
 
-fn counts_of(field: OptNetworkData) -> Counts {
+fn counts_of(field: Option<NetworkDataPart>) -> Counts {
     match field {
-        OptNetworkData::Some(x) => x.counts,
-        OptNetworkData::None => places(0, 0, 0),
+        Some(x) => x.counts,
+        None => places(0, 0, 0),
     }
 }
 
@@ -25,12 +25,12 @@ fn put_record(text: &mut Room, at: usize, payload: &[u8], lent: Counts) -> usize
     let answer = left.answer;
     let tables = left.tables;
     match answer {
-        Decoded::Data(d) => {
+        Ok(d) => {
             let network_data = d.network_data;
             let end = put_fields(text, at, payload, d);
             put_left(text, end, tables, counts_of(network_data))
         }
-        Decoded::Refused(r) => {
+        Err(r) => {
             let end = put_refusal(text, at, r);
             put_left(text, end, tables, places(0, 0, 0))
         }

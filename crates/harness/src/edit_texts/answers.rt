@@ -1,13 +1,13 @@
 // What calls answer that write into an output which is lent.
 use crate::edit_texts::lent::put_written;
 use crate::texts::Room;
-use refusal::Written;
+use refusal::Refusal;
 
 // Unknown: the request is for none of the calls that were tried.
 #[derive(Clone, Copy)]
 pub(crate) enum Answer {
     Unknown,
-    Wrote(Written),
+    Wrote(Result<usize, Refusal>),
 }
 
 pub(crate) fn put_answer(text: &mut Room, at: usize, answer: Answer, lent: &[u8]) -> usize {

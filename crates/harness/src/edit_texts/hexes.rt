@@ -5,12 +5,12 @@ use crate::edit_texts::lent::{changed, lend, put_written};
 use crate::entry_texts::put_frame;
 use crate::requests::{Values, asks};
 use crate::texts::{Room, part_of, put_dirty};
-use refusal::Written;
+use refusal::Refusal;
 
 // What was decoded into the bytes that were lent, as `frame` answers for it.
-fn put_decoded(text: &mut Room, at: usize, written: Written, lent: &[u8]) -> usize {
+fn put_decoded(text: &mut Room, at: usize, written: Result<usize, Refusal>, lent: &[u8]) -> usize {
     match written {
-        Written::Bytes(n) => {
+        Ok(n) => {
             let end = put_frame(text, at, part_of(lent, 0, n));
             put_dirty(text, end, changed(lent, n))
         }

@@ -3,21 +3,27 @@ use crate::edit_texts::lent::{changed, lend};
 use crate::requests::{Values, asks};
 use crate::texts::{Room, part_of, put_bytes_value, put_dirty, put_hex, put_refusal, put_text};
 use dataset_index::INDEX_BYTES;
-use refusal::Written;
+use refusal::Refusal;
 
 // What can be lent for an index: more than it has.
 const LENT_INDEX: usize = 2 * INDEX_BYTES;
 
 // What was written into both, and whether anything after it, or on a refusal anything at all, is no longer as it was lent.
-fn put_both(text: &mut Room, at: usize, written: Written, lent: &[u8], index: &[u8]) -> usize {
+fn put_both(
+    text: &mut Room,
+    at: usize,
+    written: Result<usize, Refusal>,
+    lent: &[u8],
+    index: &[u8],
+) -> usize {
     match written {
-        Written::Bytes(n) => {
+        Ok(n) => {
             let dataset = put_bytes_value(text, at, part_of(lent, 0, n));
             let blank = put_text(text, dataset, b" ");
             let end = put_hex(text, blank, part_of(index, 0, INDEX_BYTES));
             put_dirty(text, end, changed(lent, n) | changed(index, INDEX_BYTES))
         }
-        Written::Refused(r) => {
+        Err(r) => {
             let end = put_refusal(text, at, r);
             put_dirty(text, end, changed(lent, 0) | changed(index, 0))
         }

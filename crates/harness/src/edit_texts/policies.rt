@@ -2,15 +2,10 @@
 use crate::edit_texts::answers::Answer;
 use crate::requests::{Values, asks};
 use crate::texts::Room;
-use policy_forms::{EitherPolicy, PolicyForm, ReadEither};
-use refusal::Written;
+use policy_forms::{EitherPolicy, PolicyForm};
 
 fn written_back(value: &[u8], form: PolicyForm, lent: &mut [u8]) -> Answer {
-    match EitherPolicy::parse(value, form, 0) {
-        ReadEither::Value(policy) => Answer::Wrote(policy.write(lent)),
-        ReadEither::Absent => Answer::Unknown,
-        ReadEither::Refused(r) => Answer::Wrote(Written::Refused(r)),
-    }
+    Answer::Wrote(EitherPolicy::parse(value, form, 0).and_then(|policy| policy.write(lent)))
 }
 
 pub(crate) fn policy_calls(request: &Room, v: Values, lent: &mut [u8]) -> Answer {

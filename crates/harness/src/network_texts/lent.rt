@@ -1,16 +1,17 @@
 // Tables of Network Data that are lent: the pattern that fills them before, their text, and whether what had to stay has changed.
+use crate::answers::Put;
 use crate::network_texts::Table;
-use crate::network_texts::rows::{flags, put_border_router, put_has_route, put_prefix};
-use crate::texts::{PATTERN, Room, put_byte, same};
+use crate::network_texts::rows::flags;
+use crate::texts::{PATTERN, Room, put_byte};
 use network_bridge::{PLACES, Tables};
-use network_data::{BorderRouterEntry, Counts, HasRouteEntry, OptContext, PrefixEntry};
+use network_data::{BorderRouterEntry, Counts, HasRouteEntry, PrefixEntry};
 
 pub(crate) fn no_prefix() -> PrefixEntry {
     PrefixEntry {
         domain_id: PATTERN,
         prefix_bit_length: PATTERN,
         prefix: [PATTERN; 32],
-        six_low_pan_context: OptContext::None,
+        six_low_pan_context: None,
         has_routes: PATTERN as usize,
         border_routers: PATTERN as usize,
     }
@@ -39,53 +40,22 @@ pub(crate) fn no_border() -> BorderRouterEntry {
     }
 }
 
-fn has_context(context: OptContext) -> bool {
-    match context {
-        OptContext::Some(_) => true,
-        OptContext::None => false,
-    }
-}
-
 // Whether a record is still the pattern.
 fn prefix_stays(p: PrefixEntry) -> bool {
-    let bytes = p.prefix;
-    let context = p.six_low_pan_context;
-    if p.domain_id != PATTERN {
-        return false;
-    }
-    if p.prefix_bit_length != PATTERN {
-        return false;
-    }
-    if p.has_routes != PATTERN as usize {
-        return false;
-    }
-    if p.border_routers != PATTERN as usize {
-        return false;
-    }
-    if has_context(context) {
-        return false;
-    }
-    same(&bytes, &[PATTERN; 32])
+    p.domain_id == PATTERN
+        && p.prefix_bit_length == PATTERN
+        && p.has_routes == usize::from(PATTERN)
+        && p.border_routers == usize::from(PATTERN)
+        && p.six_low_pan_context.is_none()
+        && p.prefix == [PATTERN; 32]
 }
 
 fn route_stays(e: HasRouteEntry) -> bool {
-    if e.rloc16 != 0xA5A5 {
-        return false;
-    }
-    if e.router_preference != PATTERN {
-        return false;
-    }
-    e.is_nat64
+    e.rloc16 == 0xA5A5 && e.router_preference == PATTERN && e.is_nat64
 }
 
 fn border_stays(e: BorderRouterEntry) -> bool {
-    if e.rloc16 != 0xA5A5 {
-        return false;
-    }
-    if e.prefix_preference != PATTERN {
-        return false;
-    }
-    same(&flags(e), b"10101010")
+    e.rloc16 == 0xA5A5 && e.prefix_preference == PATTERN && flags(e) == *b"10101010"
 }
 
 // Whether the records at a place are still the pattern, of each table if they lie past its count.
@@ -96,29 +66,16 @@ fn stays_at(tables: Tables, counts: Counts, k: usize) -> bool {
     let prefix = tables.prefixes[k];
     let route = tables.has_route[k];
     let border = tables.border_routers[k];
-    if k >= counts.prefixes {
-        if !prefix_stays(prefix) {
-            return false;
-        }
-    }
-    if k >= counts.has_routes {
-        if !route_stays(route) {
-            return false;
-        }
-    }
-    if k >= counts.border_routers {
-        return border_stays(border);
-    }
-    true
+    (k < counts.prefixes || prefix_stays(prefix))
+        && (k < counts.has_routes || route_stays(route))
+        && (k < counts.border_routers || border_stays(border))
 }
 
 pub(crate) fn changed(tables: Tables, counts: Counts) -> bool {
-    let mut k = 0;
-    while k < PLACES {
+    for k in 0..PLACES {
         if !stays_at(tables, counts, k) {
             return true;
         }
-        k += 1;
     }
     false
 }
@@ -130,15 +87,15 @@ fn put_record(text: &mut Room, at: usize, table: Table, tables: Tables, k: usize
     match table {
         Table::Prefixes => {
             let entry = tables.prefixes[k];
-            put_prefix(text, at, entry)
+            entry.put(text, at)
         }
         Table::HasRoutes => {
             let entry = tables.has_route[k];
-            put_has_route(text, at, entry)
+            entry.put(text, at)
         }
         Table::BorderRouters => {
             let entry = tables.border_routers[k];
-            put_border_router(text, at, entry)
+            entry.put(text, at)
         }
     }
 }
@@ -155,11 +112,9 @@ pub(crate) fn put_table(
         return put_byte(text, at, b'-');
     }
     let mut next = put_record(text, at, table, tables, 0);
-    let mut k = 1;
-    while k < n {
+    for k in 1..n {
         let slash = put_byte(text, next, b'/');
         next = put_record(text, slash, table, tables, k);
-        k += 1;
     }
     next
 }

@@ -1,40 +1,44 @@
 // The text of each kind of record of Network Data.
+use crate::answers::Put;
 use crate::texts::{
     Room, digit, part_of, put_byte, put_hex, put_marked, put_number, put_numbers, put_text,
 };
-use network_data::{BorderRouterEntry, HasRouteEntry, OptContext, PrefixEntry};
-use network_tables::{Presence, ReadBorderRouter, ReadHasRoute, ReadPrefix};
+use network_data::{BorderRouterEntry, HasRouteEntry, PrefixEntry, SixLowPanContext};
 
-fn put_context(text: &mut Room, at: usize, context: OptContext) -> usize {
+fn put_context(text: &mut Room, at: usize, context: Option<SixLowPanContext>) -> usize {
     match context {
-        OptContext::Some(c) => {
+        Some(c) => {
             let numbers = [c.context_id as usize, c.context_length as usize];
             let compress = put_byte(text, at, digit(c.is_compress));
             put_numbers(text, compress, b'.', &numbers)
         }
-        OptContext::None => put_byte(text, at, b'-'),
+        None => put_byte(text, at, b'-'),
     }
 }
 
-pub(crate) fn put_prefix(text: &mut Room, at: usize, p: PrefixEntry) -> usize {
-    let bytes = p.prefix;
-    let n = (p.prefix_bit_length as usize + 7) / 8;
-    let counts = [p.has_routes, p.border_routers];
-    let context = p.six_low_pan_context;
-    let domain = put_number(text, at, p.domain_id as u64);
-    let bits = put_marked(text, domain, b':', p.prefix_bit_length as usize);
-    let first = put_byte(text, bits, b':');
-    let prefix = put_hex(text, first, part_of(&bytes, 0, n));
-    let second = put_byte(text, prefix, b':');
-    let end = put_context(text, second, context);
-    put_numbers(text, end, b':', &counts)
+impl Put for PrefixEntry {
+    fn put(self, text: &mut Room, at: usize) -> usize {
+        let bytes = self.prefix;
+        let n = (self.prefix_bit_length as usize + 7) / 8;
+        let counts = [self.has_routes, self.border_routers];
+        let context = self.six_low_pan_context;
+        let domain = put_number(text, at, self.domain_id as u64);
+        let bits = put_marked(text, domain, b':', self.prefix_bit_length as usize);
+        let first = put_byte(text, bits, b':');
+        let prefix = put_hex(text, first, part_of(&bytes, 0, n));
+        let second = put_byte(text, prefix, b':');
+        let end = put_context(text, second, context);
+        put_numbers(text, end, b':', &counts)
+    }
 }
 
-pub(crate) fn put_has_route(text: &mut Room, at: usize, e: HasRouteEntry) -> usize {
-    let rloc16 = put_number(text, at, e.rloc16 as u64);
-    let preference = put_marked(text, rloc16, b':', e.router_preference as usize);
-    let colon = put_byte(text, preference, b':');
-    put_byte(text, colon, digit(e.is_nat64))
+impl Put for HasRouteEntry {
+    fn put(self, text: &mut Room, at: usize) -> usize {
+        let rloc16 = put_number(text, at, self.rloc16 as u64);
+        let preference = put_marked(text, rloc16, b':', self.router_preference as usize);
+        let colon = put_byte(text, preference, b':');
+        put_byte(text, colon, digit(self.is_nat64))
+    }
 }
 
 // P, S, D, C, R, O, N and DP as digits.
@@ -51,34 +55,12 @@ pub(crate) fn flags(e: BorderRouterEntry) -> [u8; 8] {
     ]
 }
 
-pub(crate) fn put_border_router(text: &mut Room, at: usize, e: BorderRouterEntry) -> usize {
-    let digits = flags(e);
-    let rloc16 = put_number(text, at, e.rloc16 as u64);
-    let preference = put_marked(text, rloc16, b':', e.prefix_preference as usize);
-    let colon = put_byte(text, preference, b':');
-    put_text(text, colon, &digits)
-}
-
-// A record that is not there has no text.
-pub(crate) fn put_read_prefix(text: &mut Room, at: usize, r: ReadPrefix) -> usize {
-    let answer = r.answer;
-    let entry = r.entry;
-    match answer {
-        Presence::Valid => put_prefix(text, at, entry),
-        _ => at,
-    }
-}
-
-pub(crate) fn put_read_has_route(text: &mut Room, at: usize, r: ReadHasRoute) -> usize {
-    match r {
-        ReadHasRoute::Value(e) => put_has_route(text, at, e),
-        _ => at,
-    }
-}
-
-pub(crate) fn put_read_border_router(text: &mut Room, at: usize, r: ReadBorderRouter) -> usize {
-    match r {
-        ReadBorderRouter::Value(e) => put_border_router(text, at, e),
-        _ => at,
+impl Put for BorderRouterEntry {
+    fn put(self, text: &mut Room, at: usize) -> usize {
+        let digits = flags(self);
+        let rloc16 = put_number(text, at, self.rloc16 as u64);
+        let preference = put_marked(text, rloc16, b':', self.prefix_preference as usize);
+        let colon = put_byte(text, preference, b':');
+        put_text(text, colon, &digits)
     }
 }

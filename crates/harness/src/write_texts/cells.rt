@@ -7,20 +7,12 @@ pub(crate) fn word_of<'a>(line: &'a [u8], s: Span) -> &'a [u8] {
     part_of(line, s.start, s.end)
 }
 
-// The sum, or the greatest number there is.
-fn plus(a: usize, b: usize) -> usize {
-    if b <= usize::MAX - a {
-        return a + b;
-    }
-    usize::MAX
-}
-
 // What stands from a place on before the next mark, or before the end.
 pub(crate) fn first_of(line: &[u8], start: usize, end: usize, mark: u8) -> Span {
     let n = until(part_of(line, start, end), mark);
     Span {
         start,
-        end: plus(start, n),
+        end: start.saturating_add(n),
     }
 }
 
@@ -35,43 +27,21 @@ pub(crate) fn after(s: Span, end: usize) -> usize {
 // A row's cell by its number; no bytes past the last.
 pub(crate) fn cell(line: &[u8], row: Span, mark: u8, k: usize) -> Span {
     let mut at = row.start;
-    let mut i = 0;
-    while i < k {
+    for _ in 0..k {
         at = after(first_of(line, at, row.end, mark), row.end);
-        i += 1;
     }
     first_of(line, at, row.end, mark)
 }
 
-fn plus_one(n: usize, more: bool) -> usize {
-    if more {
-        return plus(n, 1);
-    }
-    n
-}
-
-// How often a mark stands in a text.
-fn count_of(s: &[u8], mark: u8) -> usize {
-    let mut n = 0;
-    let mut i = 0;
-    while i < s.len() {
-        n = plus_one(n, s[i] == mark);
-        i += 1;
-    }
-    n
-}
-
 // `-`, which stands for none.
 pub(crate) fn is_none(word: &[u8]) -> bool {
-    if word.len() == 1 {
-        return word[0] == b'-';
-    }
-    false
+    word == b"-".as_slice()
 }
 
 // How many cells a row has.
 pub(crate) fn count_cells(line: &[u8], row: Span, mark: u8) -> usize {
-    plus(count_of(word_of(line, row), mark), 1)
+    let marks = word_of(line, row).iter().filter(|b| **b == mark).count();
+    marks.saturating_add(1)
 }
 
 // How many rows a text has: they are parted by `/`. A field that is not there has none.
@@ -87,8 +57,7 @@ pub(crate) fn count_rows(line: &[u8], s: Span) -> usize {
 
 // The number that a part spells, by the size of the field that takes it.
 pub(crate) fn number(line: &[u8], s: Span) -> u64 {
-    let n = number_of(word_of(line, s));
-    n.value
+    number_of(word_of(line, s)).unwrap_or(0)
 }
 
 pub(crate) fn byte(line: &[u8], s: Span) -> u8 {
@@ -105,9 +74,8 @@ pub(crate) fn long(line: &[u8], s: Span) -> u32 {
 
 // Whether the digit of a part with that number is 1.
 pub(crate) fn bit(line: &[u8], s: Span, k: usize) -> bool {
-    let word = word_of(line, s);
-    if k < word.len() {
-        return word[k] == b'1';
+    match word_of(line, s).get(k) {
+        Some(digit) => *digit == b'1',
+        None => false,
     }
-    false
 }

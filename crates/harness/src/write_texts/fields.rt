@@ -1,5 +1,5 @@
 // The fields of a `write` line: where each stands, and whether it can be read.
-use crate::requests::{MOST_VALUES, Span, TYPE, Values, number_of};
+use crate::requests::{MOST_VALUES, Span, Values, number_of};
 use crate::texts::Room;
 use crate::write_texts::cells::{after, cell, count_cells, first_of, is_none, word_of};
 use crate::write_texts::fits::{fits, row_fits, rows_fit};
@@ -71,11 +71,10 @@ fn field_fits(line: &[u8], arena: &mut Room, ty: usize, s: Span) -> bool {
 
 // The type that a word names, or one that no field has.
 fn type_of(word: &[u8]) -> usize {
-    let n = number_of(word);
-    if n.kind & TYPE == 0 {
-        return TYPES;
+    match number_of(word) {
+        Some(n) if n < TYPES as u64 => n as usize,
+        _ => TYPES,
     }
-    n.value as usize
 }
 
 // Whether the words after the output's size are one `-`: a record without fields.
@@ -93,8 +92,8 @@ pub(crate) fn fields_of(line: &[u8], arena: &mut Room, v: Values) -> Fields {
     let mut ends = [0; TYPES];
     let mut good = says_none(line, v);
     let mut least = 0;
-    let mut k = if good { MOST_VALUES } else { 2 };
-    while k < MOST_VALUES {
+    let first = if good { MOST_VALUES } else { 2 };
+    for k in first..MOST_VALUES {
         let w = v.span(k);
         if w.end == 0 {
             break;
@@ -112,7 +111,6 @@ pub(crate) fn fields_of(line: &[u8], arena: &mut Room, v: Values) -> Fields {
         starts[ty] = start;
         ends[ty] = w.end;
         least = ty + 1;
-        k += 1;
     }
     Fields { good, starts, ends }
 }

@@ -1,52 +1,39 @@
 // Whether a cell, a row or rows can be read. A letter says what a cell is: t, s, w and n a number to 255, to 65,535, to 2^32 - 1 and to 2^64 - 1, T and S
 // the same or `-`, i 0 or 1, m and f three and eight such digits, p a priority, b bytes, k a mask of 8 bytes, c a context.
-use crate::requests::{BIT, NUMBER, SHORT, Span, TYPE, hex_kind, number_of, put_bytes};
-use crate::texts::{Room, part_of};
+use crate::requests::{Span, hex_kind, number_of, put_bytes};
+use crate::texts::Room;
 use crate::write_texts::cells::{after, cell, count_cells, count_rows, first_of, is_none, word_of};
 
 // So many digits, each 0 or 1.
 fn is_digits(word: &[u8], n: usize) -> bool {
-    let mut i = 0;
-    while i < word.len() {
-        if word[i] < b'0' {
-            return false;
-        }
-        if word[i] > b'1' {
-            return false;
-        }
-        i += 1;
-    }
-    word.len() == n
+    word.len() == n && word.iter().all(|c| *c == b'0' || *c == b'1')
 }
 
-// Whether a word is a number of a kind, and not over the most.
-fn is_number(word: &[u8], kind: u8, most: u64) -> bool {
-    let n = number_of(word);
-    if n.kind & kind == 0 {
-        return false;
+// Whether a word is a number, and not over the most.
+fn is_number(word: &[u8], most: u64) -> bool {
+    match number_of(word) {
+        Some(n) => n <= most,
+        None => false,
     }
-    n.value <= most
 }
 
 // A number to 127, or one to 128 after a `-`.
 fn is_priority(word: &[u8]) -> bool {
-    if word.len() > 1 {
-        if word[0] == b'-' {
-            return is_number(part_of(word, 1, word.len()), NUMBER, 128);
-        }
+    match word {
+        [b'-', digits @ ..] => is_number(digits, 128),
+        _ => is_number(word, 127),
     }
-    is_number(word, NUMBER, 127)
 }
 
 fn fits_plain(word: &[u8], letter: u8) -> bool {
     match letter {
-        b't' => is_number(word, TYPE, 255),
-        b's' => is_number(word, SHORT, 65535),
-        b'w' => is_number(word, NUMBER, 4294967295),
-        b'n' => is_number(word, NUMBER, u64::MAX),
-        b'i' => is_number(word, BIT, 1),
-        b'T' => is_none(word) | is_number(word, TYPE, 255),
-        b'S' => is_none(word) | is_number(word, SHORT, 65535),
+        b't' => is_number(word, 255),
+        b's' => is_number(word, 65535),
+        b'w' => is_number(word, 4294967295),
+        b'n' => is_number(word, u64::MAX),
+        b'i' => is_number(word, 1),
+        b'T' => is_none(word) | is_number(word, 255),
+        b'S' => is_none(word) | is_number(word, 65535),
         b'm' => is_digits(word, 3),
         b'f' => is_digits(word, 8),
         b'p' => is_priority(word),
@@ -89,30 +76,25 @@ pub(crate) fn fits(line: &[u8], arena: &mut Room, s: Span, letter: u8) -> bool {
 // As many cells as letters, each as its letter says.
 pub(crate) fn row_fits(line: &[u8], arena: &mut Room, row: Span, mark: u8, letters: &[u8]) -> bool {
     let mut at = row.start;
-    let mut k = 0;
-    while k < letters.len() {
+    for letter in letters {
         let c = first_of(line, at, row.end, mark);
-        if !fits(line, arena, c, letters[k]) {
+        if !fits(line, arena, c, *letter) {
             return false;
         }
         at = after(c, row.end);
-        k += 1;
     }
-    count_cells(line, row, mark) == k
+    count_cells(line, row, mark) == letters.len()
 }
 
 // Rows parted by `/`, their cells by `:`, or `-` for none.
 pub(crate) fn rows_fit(line: &[u8], arena: &mut Room, s: Span, letters: &[u8]) -> bool {
-    let n = count_rows(line, s);
     let mut at = s.start;
-    let mut k = 0;
-    while k < n {
+    for _ in 0..count_rows(line, s) {
         let row = first_of(line, at, s.end, b'/');
         if !row_fits(line, arena, row, b':', letters) {
             return false;
         }
         at = after(row, s.end);
-        k += 1;
     }
     true
 }

@@ -1,41 +1,31 @@
 // The tables of a `write` line that are Network Data's, and its Route64. Places past the rows keep the pattern, which no row may be.
-use crate::network_texts::filled;
-use crate::requests::{Span, least};
+use crate::network_texts::lent::{no_border, no_prefix, no_route};
+use crate::requests::Span;
 use crate::texts::{PATTERN, Room, part};
 use crate::write_texts::cells::{
     after, bit, byte, cell, count_rows, first_of, is_none, number, short, word_of,
 };
 use crate::write_texts::fields::Fields;
 use crate::write_texts::record::length_of;
-use network_bridge::{PLACES, Tables};
-use network_data::{BorderRouterEntry, HasRouteEntry, OptContext, PrefixEntry, SixLowPanContext};
+use network_bridge::Tables;
+use network_data::{BorderRouterEntry, HasRouteEntry, PrefixEntry, SixLowPanContext};
 use route64::{Route64, RouteDataEntry};
-
-// A byte of some, or 0 past the last.
-fn nth(bytes: &[u8], k: usize) -> u8 {
-    if k < bytes.len() {
-        return bytes[k];
-    }
-    0
-}
 
 // The bytes that a cell spells, as many as an array of 32 takes, with zeros after them.
 fn bytes_of(request: &Room, s: Span) -> [u8; 32] {
     let bytes = part(request, s.start / 2, length_of(s));
     let mut array = [0; 32];
-    let mut i = 0;
-    while i < 32 {
-        array[i] = nth(bytes, i);
-        i += 1;
+    for (place, b) in array.iter_mut().zip(bytes) {
+        *place = *b;
     }
     array
 }
 
-fn context_of(line: &[u8], s: Span) -> OptContext {
+fn context_of(line: &[u8], s: Span) -> Option<SixLowPanContext> {
     if is_none(word_of(line, s)) {
-        return OptContext::None;
+        return None;
     }
-    OptContext::Some(SixLowPanContext {
+    Some(SixLowPanContext {
         is_compress: byte(line, cell(line, s, b'.', 0)) == 1,
         context_id: byte(line, cell(line, s, b'.', 1)),
         context_length: byte(line, cell(line, s, b'.', 2)),
@@ -89,70 +79,40 @@ fn border_router_of(line: &[u8], row: Span) -> BorderRouterEntry {
     }
 }
 
-fn prefixes_of(
-    line: &[u8],
-    request: &Room,
-    s: Span,
-    unused: [PrefixEntry; PLACES],
-) -> [PrefixEntry; PLACES] {
-    let mut table = unused;
-    let n = least(count_rows(line, s), PLACES);
-    let mut at = s.start;
-    let mut k = 0;
-    while k < n {
-        let row = first_of(line, at, s.end, b'/');
-        table[k] = prefix_of(line, request, row);
-        at = after(row, s.end);
-        k += 1;
-    }
-    table
-}
-
-fn has_routes_of(line: &[u8], s: Span, unused: [HasRouteEntry; PLACES]) -> [HasRouteEntry; PLACES] {
-    let mut table = unused;
-    let n = least(count_rows(line, s), PLACES);
-    let mut at = s.start;
-    let mut k = 0;
-    while k < n {
-        let row = first_of(line, at, s.end, b'/');
-        table[k] = has_route_of(line, row);
-        at = after(row, s.end);
-        k += 1;
-    }
-    table
-}
-
-fn border_routers_of(
+// As many rows as there are places for.
+fn table_of<T: Copy, const N: usize, F: Fn(&[u8], Span) -> T>(
     line: &[u8],
     s: Span,
-    unused: [BorderRouterEntry; PLACES],
-) -> [BorderRouterEntry; PLACES] {
-    let mut table = unused;
-    let n = least(count_rows(line, s), PLACES);
+    unused: T,
+    read: F,
+) -> [T; N]
+    requires { F.IsAlwaysCallable read }
+{
+    let mut table = [unused; N];
+    let n = count_rows(line, s).min(N);
     let mut at = s.start;
-    let mut k = 0;
-    while k < n {
+    for place in &mut table[..n] {
         let row = first_of(line, at, s.end, b'/');
-        table[k] = border_router_of(line, row);
+        *place = read(line, row);
         at = after(row, s.end);
-        k += 1;
     }
     table
 }
 
 pub(crate) fn tables_of(line: &[u8], request: &Room, f: Fields) -> Tables {
     let s = f.text(diag_rules::NETWORK_DATA);
-    let unused = filled();
-    let p = unused.prefixes;
-    let h = unused.has_route;
-    let b = unused.border_routers;
-    let prefixes = prefixes_of(line, request, cell(line, s, b'|', 0), p);
-    let has_route = has_routes_of(line, cell(line, s, b'|', 1), h);
-    let border_routers = border_routers_of(line, cell(line, s, b'|', 2), b);
+    let prefixes = cell(line, s, b'|', 0);
+    let has_route = cell(line, s, b'|', 1);
+    let border_routers = cell(line, s, b'|', 2);
     Tables {
-        prefixes,
-        has_route,
-        border_routers,
+        prefixes: table_of(
+            line,
+            prefixes,
+            no_prefix(),
+            |text, row| prefix_of(text, request, row),
+        ),
+        has_route: table_of(line, has_route, no_route(), has_route_of),
+        border_routers: table_of(line, border_routers, no_border(), border_router_of),
     }
 }
 
@@ -165,24 +125,13 @@ fn route_of(line: &[u8], row: Span) -> RouteDataEntry {
     }
 }
 
-fn route_data_of(line: &[u8], s: Span) -> [RouteDataEntry; 64] {
-    let none = RouteDataEntry {
+fn no_row() -> RouteDataEntry {
+    RouteDataEntry {
         router_id: PATTERN,
         outgoing_link_quality: PATTERN,
         incoming_link_quality: PATTERN,
         route_cost: PATTERN,
-    };
-    let mut rows = [none; 64];
-    let n = least(count_rows(line, s), 64);
-    let mut at = s.start;
-    let mut k = 0;
-    while k < n {
-        let row = first_of(line, at, s.end, b'/');
-        rows[k] = route_of(line, row);
-        at = after(row, s.end);
-        k += 1;
     }
-    rows
 }
 
 // As many rows as the line has are counted; 64 there are places for.
@@ -190,11 +139,10 @@ pub(crate) fn route64_of(line: &[u8], request: &Room, f: Fields) -> Route64 {
     let s = f.text(diag_rules::ROUTE64);
     let m = bytes_of(request, cell(line, s, b',', 1));
     let rows = cell(line, s, b',', 2);
-    let route_data = route_data_of(line, rows);
     Route64 {
         id_sequence: byte(line, cell(line, s, b',', 0)),
         mask: [m[0], m[1], m[2], m[3], m[4], m[5], m[6], m[7]],
         count: count_rows(line, rows),
-        route_data,
+        route_data: table_of(line, rows, no_row(), route_of),
     }
 }

@@ -1,48 +1,40 @@
 // The record of a `write` line: its fields as the words spell them, and how many rows its tables have.
-use crate::requests::{Span, least, number_of};
-use crate::texts::part_of;
+use crate::requests::{Span, number_of};
 use crate::write_texts::cells::{bit, byte, cell, count_rows, is_none, long, short, word_of};
 use crate::write_texts::fields::Fields;
 use connectivity::Connectivity;
-use diag::{
-    NetDiagData, NetworkDataPart, OptConnectivity, OptLeaderData, OptMacCounters, OptMode,
-    OptNetworkData, OptPart, OptU32,
-};
-use diag_values::{LeaderData, MacCounters, ModeData, OptU8, OptU16};
+use diag::{NetDiagData, NetworkDataPart};
+use diag_rows::Part;
+use diag_values::{LeaderData, MacCounters, ModeData};
 use network_data::Counts;
 use writing_bridge::{CHILD_PLACES, LIST_PLACES};
 
 // A value of 65,535 bytes has so many rows of three.
 const MOST_ROWS: usize = 21845;
 
-// Here and below: a part that ends at 0 is a field that is not there.
-fn opt_u8(line: &[u8], s: Span) -> OptU8 {
+// A field as it is read, or none where it is not there, which is a part that ends at 0.
+fn field<T, F: FnOnce(&[u8], Span) -> T + Drop>(line: &[u8], s: Span, read: F) -> Option<T>
+    requires { F.IsAlwaysCallable read }
+{
     if s.end == 0 {
-        return OptU8::None;
+        return None;
     }
-    OptU8::Some(byte(line, s))
+    Some(read(line, s))
 }
 
-fn opt_u16(line: &[u8], s: Span) -> OptU16 {
-    if s.end == 0 {
-        return OptU16::None;
+// A late field, which is `-` where it is absent.
+fn late<T, F: FnOnce(&[u8], Span) -> T + Drop>(line: &[u8], s: Span, read: F) -> Option<T>
+    requires { F.IsAlwaysCallable read }
+{
+    if is_none(word_of(line, s)) {
+        return None;
     }
-    OptU16::Some(short(line, s))
-}
-
-fn opt_u32(line: &[u8], s: Span) -> OptU32 {
-    if s.end == 0 {
-        return OptU32::None;
-    }
-    OptU32::Some(long(line, s))
+    Some(read(line, s))
 }
 
 // Where the bytes of a cell are in the arena.
-fn opt_part(s: Span) -> OptPart {
-    if s.end == 0 {
-        return OptPart::None;
-    }
-    OptPart::Some {
+fn part_at(_line: &[u8], s: Span) -> Part {
+    Part {
         start: s.start / 2,
         len: length_of(s),
     }
@@ -64,13 +56,6 @@ pub(crate) fn mode_of(line: &[u8], s: Span) -> ModeData {
     }
 }
 
-fn opt_mode(line: &[u8], s: Span) -> OptMode {
-    if s.end == 0 {
-        return OptMode::None;
-    }
-    OptMode::Some(mode_of(line, s))
-}
-
 // Less than nothing by so many, to 128.
 fn negative(n: u64) -> i8 {
     if n == 0 {
@@ -80,36 +65,14 @@ fn negative(n: u64) -> i8 {
 }
 
 fn priority_of(word: &[u8]) -> i8 {
-    let n = number_of(word);
-    if n.kind != 0 {
-        return (n.value % 128) as i8;
+    match word {
+        [b'-', digits @ ..] => negative(number_of(digits).unwrap_or(0)),
+        _ => (number_of(word).unwrap_or(0) % 128) as i8,
     }
-    let below = number_of(part_of(word, 1, word.len()));
-    negative(below.value)
 }
 
-// A late field: `-` where it is absent.
-fn late_u16(line: &[u8], s: Span) -> OptU16 {
-    if is_none(word_of(line, s)) {
-        return OptU16::None;
-    }
-    OptU16::Some(short(line, s))
-}
-
-fn late_u8(line: &[u8], s: Span) -> OptU8 {
-    if is_none(word_of(line, s)) {
-        return OptU8::None;
-    }
-    OptU8::Some(byte(line, s))
-}
-
-fn opt_connectivity(line: &[u8], s: Span) -> OptConnectivity {
-    if s.end == 0 {
-        return OptConnectivity::None;
-    }
-    let size = late_u16(line, cell(line, s, b',', 7));
-    let count = late_u8(line, cell(line, s, b',', 8));
-    OptConnectivity::Some(Connectivity {
+fn connectivity_of(line: &[u8], s: Span) -> Connectivity {
+    Connectivity {
         parent_priority: priority_of(word_of(line, cell(line, s, b',', 0))),
         link_quality_3: byte(line, cell(line, s, b',', 1)),
         link_quality_2: byte(line, cell(line, s, b',', 2)),
@@ -117,29 +80,23 @@ fn opt_connectivity(line: &[u8], s: Span) -> OptConnectivity {
         leader_cost: byte(line, cell(line, s, b',', 4)),
         id_sequence: byte(line, cell(line, s, b',', 5)),
         active_routers: byte(line, cell(line, s, b',', 6)),
-        rx_off_child_buffer_size: size,
-        rx_off_child_datagram_count: count,
-    })
+        rx_off_child_buffer_size: late(line, cell(line, s, b',', 7), short),
+        rx_off_child_datagram_count: late(line, cell(line, s, b',', 8), byte),
+    }
 }
 
-fn opt_leader_data(line: &[u8], s: Span) -> OptLeaderData {
-    if s.end == 0 {
-        return OptLeaderData::None;
-    }
-    OptLeaderData::Some(LeaderData {
+fn leader_data_of(line: &[u8], s: Span) -> LeaderData {
+    LeaderData {
         partition_id: long(line, cell(line, s, b',', 0)),
         weighting: byte(line, cell(line, s, b',', 1)),
         data_version: byte(line, cell(line, s, b',', 2)),
         stable_data_version: byte(line, cell(line, s, b',', 3)),
         router_id: byte(line, cell(line, s, b',', 4)),
-    })
+    }
 }
 
-fn opt_mac_counters(line: &[u8], s: Span) -> OptMacCounters {
-    if s.end == 0 {
-        return OptMacCounters::None;
-    }
-    OptMacCounters::Some(MacCounters {
+fn mac_counters_of(line: &[u8], s: Span) -> MacCounters {
+    MacCounters {
         if_in_unknown_protos: long(line, cell(line, s, b',', 0)),
         if_in_errors: long(line, cell(line, s, b',', 1)),
         if_out_errors: long(line, cell(line, s, b',', 2)),
@@ -149,24 +106,20 @@ fn opt_mac_counters(line: &[u8], s: Span) -> OptMacCounters {
         if_out_ucast_pkts: long(line, cell(line, s, b',', 6)),
         if_out_broadcast_pkts: long(line, cell(line, s, b',', 7)),
         if_out_discards: long(line, cell(line, s, b',', 8)),
-    })
+    }
 }
 
 // Where Network Data would stand is not looked at.
-fn opt_network_data(line: &[u8], s: Span) -> OptNetworkData {
-    if s.end == 0 {
-        return OptNetworkData::None;
-    }
-    let counts = Counts {
-        prefixes: count_rows(line, cell(line, s, b'|', 0)),
-        has_routes: count_rows(line, cell(line, s, b'|', 1)),
-        border_routers: count_rows(line, cell(line, s, b'|', 2)),
-    };
-    OptNetworkData::Some(NetworkDataPart {
+fn network_data_of(line: &[u8], s: Span) -> NetworkDataPart {
+    NetworkDataPart {
         start: 0,
         len: 0,
-        counts,
-    })
+        counts: Counts {
+            prefixes: count_rows(line, cell(line, s, b'|', 0)),
+            has_routes: count_rows(line, cell(line, s, b'|', 1)),
+            border_routers: count_rows(line, cell(line, s, b'|', 2)),
+        },
+    }
 }
 
 // Three bytes a row, of as many rows as can be lent, or of all where no value has so many.
@@ -174,14 +127,11 @@ fn table_length(rows: usize) -> usize {
     if rows > MOST_ROWS {
         return 65536;
     }
-    3 * least(rows, CHILD_PLACES)
+    3 * rows.min(CHILD_PLACES)
 }
 
-fn opt_child_table(line: &[u8], s: Span) -> OptPart {
-    if s.end == 0 {
-        return OptPart::None;
-    }
-    OptPart::Some {
+fn child_table_of(line: &[u8], s: Span) -> Part {
+    Part {
         start: 0,
         len: table_length(count_rows(line, s)),
     }
@@ -189,27 +139,27 @@ fn opt_child_table(line: &[u8], s: Span) -> OptPart {
 
 // As many lists as there are, or as can be lent.
 fn count_lists(line: &[u8], s: Span) -> usize {
-    least(count_rows(line, s), LIST_PLACES)
+    count_rows(line, s).min(LIST_PLACES)
 }
 
 pub(crate) fn record_of(line: &[u8], f: Fields) -> NetDiagData {
     NetDiagData {
-        ext_mac_addr: opt_part(f.text(diag_rules::EXT_MAC_ADDRESS)),
-        mac_addr: opt_u16(line, f.text(diag_rules::MAC_ADDRESS)),
-        mode: opt_mode(line, f.text(diag_rules::MODE)),
-        timeout: opt_u32(line, f.text(diag_rules::TIMEOUT)),
-        connectivity: opt_connectivity(line, f.text(diag_rules::CONNECTIVITY)),
-        route64: opt_part(f.text(diag_rules::ROUTE64)),
-        leader_data: opt_leader_data(line, f.text(diag_rules::LEADER_DATA)),
-        network_data: opt_network_data(line, f.text(diag_rules::NETWORK_DATA)),
-        addresses: opt_part(f.text(diag_rules::IPV6_ADDRESSES)),
-        mac_counters: opt_mac_counters(line, f.text(diag_rules::MAC_COUNTERS)),
-        battery_level: opt_u8(line, f.text(diag_rules::BATTERY_LEVEL)),
-        supply_voltage: opt_u16(line, f.text(diag_rules::SUPPLY_VOLTAGE)),
-        child_table: opt_child_table(line, f.text(diag_rules::CHILD_TABLE)),
-        channel_pages: opt_part(f.text(diag_rules::CHANNEL_PAGES)),
-        type_list: opt_part(f.text(diag_rules::TYPE_LIST)),
-        eui64: opt_part(f.text(diag_rules::EUI64)),
+        ext_mac_addr: field(line, f.text(diag_rules::EXT_MAC_ADDRESS), part_at),
+        mac_addr: field(line, f.text(diag_rules::MAC_ADDRESS), short),
+        mode: field(line, f.text(diag_rules::MODE), mode_of),
+        timeout: field(line, f.text(diag_rules::TIMEOUT), long),
+        connectivity: field(line, f.text(diag_rules::CONNECTIVITY), connectivity_of),
+        route64: field(line, f.text(diag_rules::ROUTE64), part_at),
+        leader_data: field(line, f.text(diag_rules::LEADER_DATA), leader_data_of),
+        network_data: field(line, f.text(diag_rules::NETWORK_DATA), network_data_of),
+        addresses: field(line, f.text(diag_rules::IPV6_ADDRESSES), part_at),
+        mac_counters: field(line, f.text(diag_rules::MAC_COUNTERS), mac_counters_of),
+        battery_level: field(line, f.text(diag_rules::BATTERY_LEVEL), byte),
+        supply_voltage: field(line, f.text(diag_rules::SUPPLY_VOLTAGE), short),
+        child_table: field(line, f.text(diag_rules::CHILD_TABLE), child_table_of),
+        channel_pages: field(line, f.text(diag_rules::CHANNEL_PAGES), part_at),
+        type_list: field(line, f.text(diag_rules::TYPE_LIST), part_at),
+        eui64: field(line, f.text(diag_rules::EUI64), part_at),
         child_ipv6_addresses: count_lists(line, f.text(diag_rules::CHILD_IPV6_ADDRESSES)),
     }
 }

@@ -1,12 +1,12 @@
 // The rows of a `write` line that are lent beside Network Data's tables: children and their address lists.
-use crate::requests::{Span, least};
+use crate::requests::Span;
 use crate::texts::PATTERN;
 use crate::write_texts::cells::{after, byte, cell, count_rows, first_of, short};
 use crate::write_texts::fields::Fields;
 use crate::write_texts::record::{length_of, mode_of};
 use diag_rows::{ChildIpv6AddrInfo, ChildTableEntry};
 use diag_values::ModeData;
-use writing_bridge::{CHILD_PLACES, LIST_PLACES, Rows};
+use writing_bridge::Rows;
 
 fn child_of(line: &[u8], row: Span) -> ChildTableEntry {
     let mode = mode_of(line, cell(line, row, b':', 3));
@@ -79,49 +79,49 @@ fn list_weight(x: ChildIpv6AddrInfo) -> u8 {
     0
 }
 
-// Here and below: where a line has more rows than there are places, none of them can be written, and the last place takes the one that is refused first.
-fn children_of(line: &[u8], s: Span) -> [ChildTableEntry; CHILD_PLACES] {
-    let none = no_child();
-    let mut table = [none; CHILD_PLACES];
-    let n = count_rows(line, s);
+// Rows as they are read. Where a line has more than there are places, none of them can be written, and the last place takes the one that is refused first.
+fn table_of<T: Copy, const N: usize, F: Fn(&[u8], Span) -> T, W: Fn(T) -> u8>(
+    line: &[u8],
+    s: Span,
+    none: T,
+    read: F,
+    weight: W,
+) -> [T; N]
+    requires reads { F.IsAlwaysCallable read }
+    requires weighs { W.IsAlwaysCallable weight }
+{
+    let mut table = [none; N];
     let mut at = s.start;
-    let mut k = 0;
-    while k < n {
+    for k in 0..count_rows(line, s) {
         let row = first_of(line, at, s.end, b'/');
-        let child = child_of(line, row);
-        let place = least(k, CHILD_PLACES - 1);
-        let there = table[place];
-        if (k < CHILD_PLACES) | (child_weight(child) > child_weight(there)) {
-            table[place] = child;
+        let x = read(line, row);
+        if k < N {
+            table[k] = x;
+        } else if let Some(last) = table.last_mut() {
+            if weight(x) > weight(*last) {
+                *last = x;
+            }
         }
         at = after(row, s.end);
-        k += 1;
-    }
-    table
-}
-
-fn lists_of(line: &[u8], s: Span) -> [ChildIpv6AddrInfo; LIST_PLACES] {
-    let none = no_list();
-    let mut table = [none; LIST_PLACES];
-    let n = count_rows(line, s);
-    let mut at = s.start;
-    let mut k = 0;
-    while k < n {
-        let row = first_of(line, at, s.end, b'/');
-        let list = list_of(line, row);
-        let place = least(k, LIST_PLACES - 1);
-        let there = table[place];
-        if (k < LIST_PLACES) | (list_weight(list) > list_weight(there)) {
-            table[place] = list;
-        }
-        at = after(row, s.end);
-        k += 1;
     }
     table
 }
 
 pub(crate) fn rows_of(line: &[u8], f: Fields) -> Rows {
-    let children = children_of(line, f.text(diag_rules::CHILD_TABLE));
-    let lists = lists_of(line, f.text(diag_rules::CHILD_IPV6_ADDRESSES));
-    Rows { children, lists }
+    Rows {
+        children: table_of(
+            line,
+            f.text(diag_rules::CHILD_TABLE),
+            no_child(),
+            child_of,
+            child_weight,
+        ),
+        lists: table_of(
+            line,
+            f.text(diag_rules::CHILD_IPV6_ADDRESSES),
+            no_list(),
+            list_of,
+            list_weight,
+        ),
+    }
 }

@@ -1,12 +1,13 @@
 -- `listing::line_end` meets its contract, by whether the input ends in a newline.
+use native.Mathlib.Omega.{arith}
 use Rattle.listing.proofs.Reports.{line_none, line_dropped, line_whole}
 use Rattle.listing.proofs.line_end.Goals as goal
 
-pub returns-then-n-eq0 : goal.returns-then-n-eq0
-returns-then-n-eq0 c = line_none _ c.if-n-eq0.true
+pub returns-in-10 : goal.returns-in-10
+returns-in-10 c = line_dropped c.args.input.now (omega arith)
 
-pub returns-then-input-n-eq10 : goal.returns-then-input-n-eq10
-returns-then-input-n-eq10 c = line_dropped _ c.if-input-n-eq10.true
+pub returns-in_default : goal.returns-in_default
+returns-in_default c = line_none c.args.input.now c.in_default.len_below
 
-pub returns : goal.returns
-returns c = line_whole _ c.if-input-n-eq10.false
+pub returns-in_default-2 : goal.returns-in_default-2
+returns-in_default-2 c = line_whole c.args.input.now (λ z. omega arith)

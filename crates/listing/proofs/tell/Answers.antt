@@ -7,9 +7,9 @@ pub returns-in_default : goal.returns-in_default
 returns-in_default c = rw c.in_default.is (telling_given _ _)
 
 pub returns-then-number-eq11 : goal.returns-then-number-eq11
-returns-then-number-eq11 c = rw c.in-Refused.is (telling_eleven _ _ _ _ (sym c.number-number.ensures ∙ c.if-number-eq11.true))
+returns-then-number-eq11 c = rw c.in-Err.is (telling_eleven _ _ _ _ (sym c.number-number.ensures ∙ c.if-number-eq11.true))
 
 pub returns : goal.returns
 returns c =
     let other = telling_other _ _ _ _ (λ eleven. c.if-number-eq11.false (c.number-number.ensures ∙ eleven)) in
-    rw c.in-Refused.is (rw c.number-number.ensures at c.write_refused.ensures ∙ other)
+    rw c.in-Err.is (rw c.number-number.ensures at c.write_refused.ensures ∙ other)

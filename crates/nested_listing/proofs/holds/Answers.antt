@@ -11,15 +11,15 @@ returns-then-ty-eq7 c = (held_network _ _ _ c.if-nesting-eq-LEVELS.true c.if-ty-
 pub returns-then-nesting-eq-LEVELS : goal.returns-then-nesting-eq-LEVELS
 returns-then-nesting-eq-LEVELS c = (held_other _ _ _ c.if-nesting-eq-LEVELS.true c.if-ty-eq7.false, tt)
 
-pub returns-in-Inner : goal.returns-in-Inner
-returns-in-Inner c =
+pub returns-in-Some : goal.returns-in-Some
+returns-in-Some c =
     let two = c.if-nesting-eq2.true in
-    let at = prefix_list _ _ (sym (ap head_answer c.in-Inner.is) ∙ c.head_at.ensures) in
+    let at = prefix_list _ _ (sym (ap head_answer c.in-Some.is) ∙ c.head_at.ensures) in
     (third_list _ _ two ∙ at.1 ∙ held_prefix _ _ _ two c.if-ty-eq1.true, (omega arith, at.0))
 
-pub returns-in-Short : goal.returns-in-Short
-returns-in-Short c =
-    let short = prefix_none _ _ _ _ (sym (ap head_answer c.in-Short.is) ∙ c.head_at.ensures) in
+pub returns-in-None : goal.returns-in-None
+returns-in-None c =
+    let short = prefix_none _ _ _ _ (sym (ap head_answer c.in-None.is) ∙ c.head_at.ensures) in
     (short ∙ held_prefix _ _ _ c.if-nesting-eq2.true c.if-ty-eq1.true, omega arith)
 
 pub returns-else-ty-eq1 : goal.returns-else-ty-eq1

@@ -3,17 +3,17 @@ use native.Mathlib.Omega.{arith}
 use borrow.Author.Rules.{rules}
 use Rattle.laws.proofs.Emits.{emit_refused}
 use Rattle.laws.proofs.Callers.{gave_inside}
+use Rattle.refusal.proofs.Papers.{passes}
 use Rattle.nested_listing.specs.Nested.{nested}
 use Rattle.listing.proofs.Hexes.{hex_given, hex_refused}
 use Rattle.nested_listing.proofs.list_nested_hex.Goals as goal
 
 pub slice_bounds-list_nested-end : goal.slice_bounds-list_nested-end
-slice_bounds-list_nested-end c = omega (arith, gave_inside _ _ _ _ (rw c.in-Bytes.is at c.decode.ensures))
+slice_bounds-list_nested-end c = omega (arith, gave_inside _ _ _ _ c.in_ok-n.ensures)
 
-pub returns-in-Refused : goal.returns-in-Refused
-returns-in-Refused c = emit_refused _ _ _ _ _ (hex_refused nested _ _ _ _ _ _ (search rules) (rw c.in-Refused.is at c.decode.ensures))
+pub returns-in_err-n : goal.returns-in_err-n
+returns-in_err-n c =
+    rw (passes _ _ c.from_residual.ensures.1) (emit_refused _ _ _ _ _ (hex_refused nested _ _ _ _ _ _ (search rules) c.in_err-n.ensures))
 
-pub returns-in-Bytes : goal.returns-in-Bytes
-returns-in-Bytes c =
-    let bytes = hex_given nested _ _ _ _ (rw c.in-Bytes.is at c.decode.ensures) in
-    rw bytes c.list_nested.ensures
+pub returns : goal.returns
+returns c = rw (hex_given nested _ _ _ _ c.in_ok-n.ensures) c.list_nested.ensures

@@ -1,29 +1,29 @@
 -- `network_framing::head_at` meets its contract: at each `return` the tests that led there say which case of `head_place` holds.
+use Rattle.std.specs.Prelude.{None}
 use borrow.Author.Tests.{lt-ltb, le-ltb, le-leb, lt-leb}
 use native.Mathlib.Omega.{arith}
 use Prim.Native.Nat.{◌+◌}
 use Rattle.network_framing.specs.Place.{head_place}
 use Rattle.network_framing.proofs.Agrees.{head_is, head_short, head_inner}
-use Rattle.network_framing.specs.declared.Head.TheVariants.{Short}
 use Rattle.network_framing.proofs.head_at.Goals as goal
 
 pub returns-then-end-start : goal.returns-then-end-start
 unfolding head_place
 returns-then-end-start c =
     let a = c.args in
-    head_is a.s.now a.start a.end Short (simp (le-leb _ _ c.if-end-start.true))
+    head_is a.s.now a.start a.end None (simp (le-leb _ _ c.if-end-start.true))
 
 pub returns-then-s-end : goal.returns-then-s-end
 unfolding head_place
 returns-then-s-end c =
     let a = c.args in
-    head_is a.s.now a.start a.end Short (simp (lt-leb _ _ c.if-end-start.false, lt-ltb _ _ c.if-s-end.true))
+    head_is a.s.now a.start a.end None (simp (lt-leb _ _ c.if-end-start.false, lt-ltb _ _ c.if-s-end.true))
 
 pub returns-then-n-lt2 : goal.returns-then-n-lt2
 unfolding head_place
 returns-then-n-lt2 c =
     let a = c.args in
-    head_is a.s.now a.start a.end Short (simp (lt-leb _ _ c.if-end-start.false, le-ltb _ _ c.if-s-end.false, lt-ltb _ _ c.if-n-lt2.true))
+    head_is a.s.now a.start a.end None (simp (lt-leb _ _ c.if-end-start.false, le-ltb _ _ c.if-s-end.false, lt-ltb _ _ c.if-n-lt2.true))
 
 pub overflow_cast-need : goal.overflow_cast-need
 overflow_cast-need c =

@@ -11,21 +11,9 @@ pub returns-then-n-ne3 : goal.returns-then-n-ne3
 unfolding read
 returns-then-n-ne3 c = misfit_any c.misfit.result _ _ c.misfit.ensures ∙ ruled_not (numbers_in 3) 3 _ _ (λ e. omega (arith, c.if-n-ne3.true))
 
-pub overflow_cast-result : goal.overflow_cast-result
-overflow_cast-result c = omega (arith, c.type_inv.value 0)
-
-pub overflow_mul-result : goal.overflow_mul-result
-overflow_mul-result c = omega (arith, c.type_inv.value 0)
-
-pub overflow_cast-result-2 : goal.overflow_cast-result-2
-overflow_cast-result-2 c = omega (arith, c.type_inv.value 1)
-
-pub overflow_add-result : goal.overflow_add-result
-overflow_add-result c = omega (arith, c.type_inv.value 0, c.type_inv.value 1)
-
 pub returns : goal.returns
 unfolding read
 returns c =
     let v = c.args.value.now in
     let three : length v ≡ 3 = omega (arith, c.if-n-ne3.false) in
-    ruled_is (numbers_in 3) 3 _ _ _ three (three_of v three)
+    rw c.from_be_bytes.ensures (ruled_is (numbers_in 3) 3 _ _ _ three (three_of v three))

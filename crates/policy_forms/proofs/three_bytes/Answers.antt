@@ -8,4 +8,4 @@ use Rattle.policy_forms.proofs.three_bytes.Goals as goal
 
 pub returns : goal.returns
 unfolding stored_bytes bytes_of
-returns c = let h : c.args.flags % 256 ≡ c.args.flags = omega arith in rw h
+returns c = let h : c.args.flags % 256 ≡ c.args.flags = omega arith in rw (c.to_be_bytes.ensures, h)

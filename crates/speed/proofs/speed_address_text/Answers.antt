@@ -8,7 +8,6 @@ use Rattle.refusal.specs.Output.{Output, output, emit, Placed, placing, placed}
 use Rattle.address_forms.specs.AddressText.{address_text}
 use Rattle.speed.specs.Code.{code}
 use Rattle.speed.specs.Address.{address_in}
-use borrow.Author.Rules.{rules}
 use Rattle.speed.proofs.speed_address_text.Goals as goal
 
 taken : (n : ℕ) (bytes address : List ℕ) (a : Answer ℕ) (left out : List ℕ) → placing n address ≡ placed bytes 0 (replicate 16 0) → output a left ≡ emit (given (address_text address)) out → output a left ≡ emit (given (address_text (address_in bytes))) out

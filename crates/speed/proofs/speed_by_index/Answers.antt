@@ -1,7 +1,6 @@
 -- `speed::speed_by_index` meets its contract.
 use mathlib.Core.Path.{ap}
 use lib.ListN.{length}
-use borrow.Author.Rules.{rules}
 use Rattle.speed.proofs.speed_by_index.Goals as goal
 
 pub returns : goal.returns

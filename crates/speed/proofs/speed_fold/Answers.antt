@@ -2,7 +2,6 @@
 use mathlib.Core.Path.{◌∙◌, ap}
 use Rattle.speed.specs.Code.{code}
 use Rattle.refusal.specs.Output.{Output}
-use borrow.Author.Rules.{rules}
 use Rattle.speed.proofs.speed_fold.Goals as goal
 
 pub returns : goal.returns

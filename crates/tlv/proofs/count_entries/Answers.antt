@@ -15,7 +15,7 @@ use Rattle.tlv.proofs.count_entries.Goals.{then-n-eq-MAX_ENTRIES, else-n-eq-MAX_
 
 pub returns-then-s-gt-MAX_BYTES : goal.returns-then-s-gt-MAX_BYTES
 unfolding count framed
-returns-then-s-gt-MAX_BYTES c = c.refuse.ensures ∙ simp (lt-ltb most_bytes _ c.if-s-gt-MAX_BYTES.true)
+returns-then-s-gt-MAX_BYTES c = simp (lt-ltb most_bytes _ c.if-s-gt-MAX_BYTES.true)
 
 pub loop-start-init : goal.loop-start-init
 unfolding count framed

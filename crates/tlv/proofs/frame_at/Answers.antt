@@ -1,8 +1,9 @@
 -- `tlv::frame_at` meets its contract: at each `return` the tests that led there say which case of `frame_at` holds.
 use borrow.Author.Tests.{lt-ltb, le-ltb, le-leb, lt-leb, eq-eqb, ne_eqb}
+use mathlib.Core.Path.{◌≡◌}
 use native.Mathlib.Omega.{arith}
-use Prim.Native.Nat.{◌+◌, ◌-◌, ◌≤◌, ◌<◌}
-use lib.ListN.{length}
+use Prim.Native.Nat.{◌+◌, ◌-◌, ◌*◌, ◌≤◌, ◌<◌}
+use lib.ListN.{length, get_or}
 use Rattle.tlv.specs.Place.{frame_at, value_at}
 use Rattle.tlv.proofs.frame_at.Goals as goal
 
@@ -21,27 +22,21 @@ returns-then-n-at-lt4 c =
     let few : length a.s.now - a.at < 4 = omega arith in
     simp (lt-leb _ _ c.if-n-at.false, le-ltb _ _ c.if-n-at-lt2.false, eq-eqb _ _ c.if-short.true, lt-ltb _ _ few)
 
-pub overflow_mul-long : goal.overflow_mul-long
-overflow_mul-long c = omega (arith, c.type_inv.s (c.args.at + 2))
-
-pub overflow_add-long-then-short-2 : goal.overflow_add-long-then-short-2
-overflow_add-long-then-short-2 c =
-    let at = c.args.at in
-    omega (arith, c.type_inv.s (at + 3), c.type_inv.s (at + 2))
-
 pub returns-then-long-n : goal.returns-then-long-n
 unfolding frame_at value_at
 returns-then-long-n c =
     let a = c.args in
     let enough : 4 ≤ length a.s.now - a.at = omega arith in
-    simp (lt-leb _ _ c.if-n-at.false, le-ltb _ _ c.if-n-at-lt2.false, eq-eqb _ _ c.if-short.true, le-ltb _ _ enough, le-leb _ _ c.if-long-n.true)
+    let long : get_or a.s.now (a.at + 2) 0 * 256 + get_or a.s.now (a.at + 3) 0 ≡ c.from-long.result = omega arith in
+    simp (lt-leb _ _ c.if-n-at.false, le-ltb _ _ c.if-n-at-lt2.false, eq-eqb _ _ c.if-short.true, le-ltb _ _ enough, long, le-leb _ _ c.if-long-n.true)
 
 pub returns-then-short : goal.returns-then-short
 unfolding frame_at value_at
 returns-then-short c =
     let a = c.args in
     let enough : 4 ≤ length a.s.now - a.at = omega arith in
-    simp (lt-leb _ _ c.if-n-at.false, le-ltb _ _ c.if-n-at-lt2.false, eq-eqb _ _ c.if-short.true, le-ltb _ _ enough, lt-leb _ _ c.if-long-n.false)
+    let long : get_or a.s.now (a.at + 2) 0 * 256 + get_or a.s.now (a.at + 3) 0 ≡ c.from-long.result = omega arith in
+    simp (lt-leb _ _ c.if-n-at.false, le-ltb _ _ c.if-n-at-lt2.false, eq-eqb _ _ c.if-short.true, le-ltb _ _ enough, long, lt-leb _ _ c.if-long-n.false)
 
 pub returns-then-short-n : goal.returns-then-short-n
 unfolding frame_at value_at

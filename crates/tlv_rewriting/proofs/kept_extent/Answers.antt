@@ -1,63 +1,45 @@
--- `tlv_rewriting::kept_extent` meets its contract. The invariant: what is counted, and what the entries from at on take, is what all take.
--- The measure is what is left of the input.
+-- `tlv_rewriting::kept_extent` meets its contract.
+use Prim.Native.Nat.{◌+◌}
 use mathlib.Core.Path.{sym, ap, ◌∙◌}
-use mathlib.Core.List.{List}
 use native.Mathlib.Omega.{arith}
 use native.Mathlib.Nat.{zero-add}
 use lib.ListN.{length}
-use borrow.Author.Rules.{rules}
-use Rattle.tlv.specs.Entries.{Content}
+use Rattle.tlv.specs.Walk.{left, as_entry}
+use Rattle.tlv.proofs.Walks.{framing_lies}
 use Rattle.tlv_writing.specs.Encode.{encode_all}
-use Rattle.tlv_rewriting.specs.Loops.{extent_of}
-use Rattle.tlv.proofs.Walks.{turn_entries, turn_none, turn_inside}
-use Rattle.tlv_writing.proofs.Encodes.{size_bound, entry_size_lem}
+use Rattle.tlv_writing.proofs.Encodes.{entry_size_lem}
 use Rattle.tlv_writing.proofs.Several.{encode_none}
-use Rattle.tlv_rewriting.proofs.Kept.{kept_from, kept_start, kept_end, turn_skip, length_keep, count_keep, extent_is}
-use borrow.Enum.Refused.{opened}
+use Rattle.tlv_rewriting.proofs.Kept.{kept_none, turn_skip, length_keep, count_keep, extent_is, kept_bound}
 use Rattle.tlv_rewriting.proofs.kept_extent.Goals as goal
 
-pub loop-ty-init : goal.loop-ty-init
-loop-ty-init c = (search rules, search rules, search rules, zero-add _, zero-add _)
-
-pub overflow_add-end : goal.overflow_add-end
-overflow_add-end c = omega (arith, turn_inside _ _ _ c.frame_at.ensures _ _ _ c.in-Entry.is)
+pub loop-entry-init : goal.loop-entry-init
+loop-entry-init c = rw (c.into_iter-entry-iterator.ensures.into_iter_gives, c.entries-entry-items.ensures) (zero-add _, zero-add _, framing_lies _)
 
 pub overflow_add-bytes : goal.overflow_add-bytes
 overflow_add-bytes c =
-    let inside = turn_inside _ _ _ c.frame_at.ensures _ _ _ c.in-Entry.is in
-    let n = c.in-Entry.len in
-    omega (arith, inside, c.entry_size-bytes.ensures ∙ entry_size_lem n (omega arith), size_bound n)
+    let held = rw c.in-Some.ensures.steps at c.loop-entry.invariant in
+    let size = c.entry_size-bytes.ensures ∙ entry_size_lem (length c.in-Some.entry.value.now) (omega (arith, held.2.0, c.requires)) in
+    omega (arith, held.0, size, length_keep c.args.c (as_entry c.in-Some.entry) (left c.next.new.self) (sym c.keeps.ensures ∙ c.if-keeps.true), kept_bound c.args.c c.args.s.now, c.requires)
 
 pub overflow_add-entries : goal.overflow_add-entries
-overflow_add-entries c = omega (arith, turn_inside _ _ _ c.frame_at.ensures _ _ _ c.in-Entry.is)
+overflow_add-entries c = omega (arith, c.loop-entry.invariant.1, kept_bound c.args.c c.args.s.now, c.requires)
 
-pub loop-ty-smaller-then-keeps : goal.loop-ty-smaller-then-keeps
-loop-ty-smaller-then-keeps c = omega (arith, turn_inside _ _ _ c.frame_at.ensures _ _ _ c.in-Entry.is)
+pub loop-entry-preserved-then-keeps : goal.loop-entry-preserved-then-keeps
+loop-entry-preserved-then-keeps c =
+    let held = rw c.in-Some.ensures.steps at c.loop-entry.invariant in
+    let keeps = sym c.keeps.ensures ∙ c.if-keeps.true in
+    let e = as_entry c.in-Some.entry in
+    let es = left c.next.new.self in
+    let size = c.entry_size-bytes.ensures ∙ entry_size_lem (length c.in-Some.entry.value.now) (omega (arith, held.2.0, c.requires)) in
+    (omega (arith, held.0, size, length_keep c.args.c e es keeps), omega (arith, held.1, count_keep c.args.c e es keeps), held.2.1)
 
-pub loop-ty-preserved-then-keeps : goal.loop-ty-preserved-then-keeps
-loop-ty-preserved-then-keeps c =
-    let found = c.frame_at.ensures in
-    let inside = turn_inside _ _ _ found _ _ _ c.in-Entry.is in
-    let entries = turn_entries _ _ _ found _ _ _ c.in-Entry.is in
-    let n = c.in-Entry.len in
-    let kept = sym c.keeps.ensures ∙ c.if-keeps.true in
-    omega (arith, size_bound n, length_keep _ _ _ _ _ n entries inside.1 kept, count_keep _ _ _ _ _ n entries kept, c.entry_size-bytes.ensures ∙ entry_size_lem n (omega arith))
+pub loop-entry-preserved : goal.loop-entry-preserved
+loop-entry-preserved c =
+    let held = rw c.in-Some.ensures.steps at c.loop-entry.invariant in
+    let skip = turn_skip _ _ _ (sym c.keeps.ensures ∙ c.if-keeps.false) in
+    (ap (λ cs. c.loop-entry.bytes + length (encode_all cs)) (sym skip) ∙ held.0, ap (λ cs. c.loop-entry.entries + length cs) (sym skip) ∙ held.1, held.2.1)
 
-pub loop-ty-smaller : goal.loop-ty-smaller
-loop-ty-smaller c = omega (arith, turn_inside _ _ _ c.frame_at.ensures _ _ _ c.in-Entry.is)
-
-pub loop-ty-preserved : goal.loop-ty-preserved
-loop-ty-preserved c =
-    let found = c.frame_at.ensures in
-    let inside = turn_inside _ _ _ found _ _ _ c.in-Entry.is in
-    let entries = turn_entries _ _ _ found _ _ _ c.in-Entry.is in
-    let skip = turn_skip _ _ _ _ _ c.in-Entry.len entries (sym c.keeps.ensures ∙ c.if-keeps.false) in
-    omega (arith, ap length skip, ap (λ (cs : List Content). length (encode_all cs)) skip)
-
-pub returns-in_default : goal.returns-in_default
-returns-in_default c =
-    let a = c.args in
-    let none = kept_end a.c _ _ (turn_none _ _ _ c.frame_at.ensures (opened c.in_default.in_default-own.keys2)) in
-    let bytes = ap length (ap encode_all none ∙ encode_none) in
-    let entries = ap length none in
-    (extent_is _ _ (kept_from a.c a.s.now 0) (omega arith) (omega arith) ∙ ap extent_of (kept_start _ _), omega arith)
+pub returns : goal.returns
+returns c =
+    let held = rw (c.in-None.ensures.steps.0, kept_none, encode_none) at c.loop-entry.invariant in
+    (extent_is _ _ _ (omega (arith, held.0)) (omega (arith, held.1)), omega (arith, held.0, kept_bound c.args.c c.args.s.now))

@@ -1,16 +1,17 @@
--- `tlv_rewriting::kept_extent` meets its contract. The invariant: what is counted, and what the entries from at on take, is what all take.
--- The measure is what is left of the input.
+-- `tlv_rewriting::kept_extent` meets its contract. The invariant: what is counted, and what is kept of the entries that are left, is what all take.
 use mathlib.Core.Path.{◌≡◌}
-use Prim.Native.Nat.{◌+◌, ◌*◌, ◌-◌, ◌≤◌}
+use Prim.Native.Nat.{◌+◌}
 use lib.ListN.{length}
+use Rattle.refusal.specs.Every.{Every}
+use Rattle.tlv.specs.Entries.{framing}
+use Rattle.tlv.specs.Walk.{left}
+use Rattle.tlv.proofs.Walks.{Lies}
 use Rattle.tlv_writing.specs.Encode.{encode_all}
-use Rattle.tlv_rewriting.proofs.Kept.{kept_from}
+use Rattle.tlv_rewriting.proofs.Kept.{kept_of}
 use Rattle.tlv_rewriting.proofs.kept_extent.Given as goal
 
-abbrev pub invariant-loop-ty : goal.invariant-loop-ty
-invariant-loop-ty l = (l.at ≤ length l.s) × (l.bytes ≤ 2 * l.at) × (l.entries ≤ l.at)
-    × (l.bytes + length (encode_all (kept_from l.c l.s l.at)) ≡ length (encode_all (kept_from l.c l.s 0)))
-    × (l.entries + length (kept_from l.c l.s l.at) ≡ length (kept_from l.c l.s 0))
-
-abbrev pub decreases-loop-ty : goal.decreases-loop-ty
-decreases-loop-ty l = length l.s - l.at
+abbrev pub invariant-loop-entry : goal.invariant-loop-entry
+invariant-loop-entry l =
+    (l.bytes + length (encode_all (kept_of l.c (left l.entry-iterator))) ≡ length (encode_all (kept_of l.c (framing l.s).entries)))
+    × (l.entries + length (kept_of l.c (left l.entry-iterator)) ≡ length (kept_of l.c (framing l.s).entries))
+    × Every (Lies l.s) (left l.entry-iterator)

@@ -1,17 +1,19 @@
 -- `tlv_rewriting::put_kept` meets its contract. The invariant: what is left to write, stored from here on, makes of out what all the entries make of it.
--- The measure is what is left of the input.
 use mathlib.Core.Path.{◌≡◌}
-use Prim.Native.Nat.{◌+◌, ◌-◌, ◌≤◌}
+use Prim.Native.Nat.{◌+◌}
 use lib.ListN.{length}
+use Rattle.refusal.specs.Every.{Every}
 use Rattle.refusal.specs.Output.{put}
+use Rattle.tlv.specs.Entries.{framing}
+use Rattle.tlv.specs.Walk.{left}
+use Rattle.tlv.proofs.Walks.{Lies}
 use Rattle.tlv_writing.specs.Encode.{encode_all}
-use Rattle.tlv_rewriting.proofs.Kept.{kept_from}
+use Rattle.tlv_rewriting.proofs.Kept.{kept_of}
 use Rattle.tlv_rewriting.proofs.put_kept.Given as goal
 
-abbrev pub invariant-loop-ty : goal.invariant-loop-ty
-invariant-loop-ty l = (l.at ≤ length l.s) × (length l.out ≡ length l.initial.out)
-    × (l.to + length (encode_all (kept_from l.c l.s l.at)) ≡ length (encode_all (kept_from l.c l.s 0)))
-    × (put l.out l.to (encode_all (kept_from l.c l.s l.at)) ≡ put l.initial.out 0 (encode_all (kept_from l.c l.s 0)))
-
-abbrev pub decreases-loop-ty : goal.decreases-loop-ty
-decreases-loop-ty l = length l.s - l.at
+abbrev pub invariant-loop-entry : goal.invariant-loop-entry
+invariant-loop-entry l =
+    (length l.out ≡ length l.initial.out)
+    × (l.to + length (encode_all (kept_of l.c (left l.entry-iterator))) ≡ length (encode_all (kept_of l.c (framing l.s).entries)))
+    × (put l.out l.to (encode_all (kept_of l.c (left l.entry-iterator))) ≡ put l.initial.out 0 (encode_all (kept_of l.c (framing l.s).entries)))
+    × Every (Lies l.s) (left l.entry-iterator)

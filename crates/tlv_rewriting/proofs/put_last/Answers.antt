@@ -6,13 +6,13 @@ use native.Mathlib.Omega.{arith}
 use native.Mathlib.Nat.{zero-add}
 use lib.ListN.{length}
 use Rattle.refusal.specs.Output.{put}
+use Rattle.refusal.proofs.Papers.{passes}
 use Rattle.laws.proofs.Puts.{put_then}
 use Rattle.laws.proofs.Emits.{emit_refused, emit_no_room, emit_done, placed_next, placed_left}
 use Rattle.tlv.specs.Entries.{Content, contents, framing}
 use Rattle.tlv_writing.specs.Encode.{size_of, encode_all}
 use Rattle.tlv_rewriting.specs.Rewrite.{kept, added}
 use Rattle.tlv_rewriting.specs.Loops.{extent_of}
-use Rattle.tlv.specs.Answers.{counted_answer}
 use Rattle.tlv_rewriting.specs.declared.Choice.{Choice}
 use Rattle.tlv_rewriting.specs.declared.Extent.{Extent}
 use Rattle.tlv.proofs.Tally.{counted_short}
@@ -29,37 +29,36 @@ bytes c ty value cs e size rest new = omega (arith, add_length c ty value cs, ap
 number : (c : Choice) (ty : ℕ) (value : List ℕ) (cs : List Content) (e : Extent) → e ≡ extent_of (kept c cs) → length (added c ty value cs) ≡ e.entries + 1
 number c ty value cs e rest = add_count c ty value cs ∙ ap (λ (x : Extent). x.entries + 1) (sym rest)
 
-pub returns-in-Refused : goal.returns-in-Refused
-returns-in-Refused c =
-    let told = sym (ap counted_answer c.in-Refused.is) ∙ c.count_entries.ensures in
-    emit_refused _ _ _ _ _ (add_refused _ _ _ _ _ _ _ told)
+pub returns-in_err-count_entries : goal.returns-in_err-count_entries
+returns-in_err-count_entries c =
+    rw (passes _ _ c.from_residual.ensures.1) (emit_refused _ _ _ _ _ (add_refused _ _ _ _ _ _ _ (c.in_err-count_entries.ensures)))
 
 pub returns-then-value-gt-MAX_EXTENDED_TLV_LENGTH : goal.returns-then-value-gt-MAX_EXTENDED_TLV_LENGTH
 returns-then-value-gt-MAX_EXTENDED_TLV_LENGTH c =
-    let told = sym (ap counted_answer c.in-Entries.is) ∙ c.count_entries.ensures in
+    let told = c.in_ok-count_entries.ensures in
     rw c.refuse.ensures (emit_refused _ _ _ _ _ (add_too_long _ _ _ _ _ told c.if-value-gt-MAX_EXTENDED_TLV_LENGTH.true))
 
 pub kept_extent-rest-requires : goal.kept_extent-rest-requires
-kept_extent-rest-requires c = counted_short _ _ _ (sym (ap counted_answer c.in-Entries.is) ∙ c.count_entries.ensures)
+kept_extent-rest-requires c = counted_short _ _ _ (c.in_ok-count_entries.ensures)
 
 pub overflow_add-need : goal.overflow_add-need
 overflow_add-need c =
     let n = length c.args.value.now in
-    let told = sym (ap counted_answer c.in-Entries.is) ∙ c.count_entries.ensures in
+    let told = c.in_ok-count_entries.ensures in
     let new = c.entry_size.ensures ∙ entry_size_lem n c.if-value-gt-MAX_EXTENDED_TLV_LENGTH.false in
     omega (arith, counted_short _ _ _ told, new, c.kept_extent-rest.ensures.1, size_bound n)
 
 pub returns-then-need-gt-MAX_BYTES : goal.returns-then-need-gt-MAX_BYTES
 returns-then-need-gt-MAX_BYTES c =
     let long = c.if-value-gt-MAX_EXTENDED_TLV_LENGTH.false in
-    let told = sym (ap counted_answer c.in-Entries.is) ∙ c.count_entries.ensures in
+    let told = c.in_ok-count_entries.ensures in
     let b = bytes c.args.choice c.args.ty c.args.value.now _ _ _ c.kept_extent-rest.ensures.0 (c.entry_size.ensures ∙ entry_size_lem _ long) in
     rw c.refuse-then-need-gt-MAX_BYTES.ensures (emit_refused _ _ _ _ _ (sized_bytes _ (omega (arith, b)) ∙ sym (add_sized _ _ _ _ _ told long)))
 
 pub returns-then-rest-ge-MAX_ENTRIES : goal.returns-then-rest-ge-MAX_ENTRIES
 returns-then-rest-ge-MAX_ENTRIES c =
     let long = c.if-value-gt-MAX_EXTENDED_TLV_LENGTH.false in
-    let told = sym (ap counted_answer c.in-Entries.is) ∙ c.count_entries.ensures in
+    let told = c.in_ok-count_entries.ensures in
     let b = bytes c.args.choice c.args.ty c.args.value.now _ _ _ c.kept_extent-rest.ensures.0 (c.entry_size.ensures ∙ entry_size_lem _ long) in
     let n = number c.args.choice c.args.ty c.args.value.now _ _ c.kept_extent-rest.ensures.0 in
     rw c.refuse-then-rest-ge-MAX_ENTRIES.ensures
@@ -68,7 +67,7 @@ returns-then-rest-ge-MAX_ENTRIES c =
 pub returns-then-need-out : goal.returns-then-need-out
 returns-then-need-out c =
     let long = c.if-value-gt-MAX_EXTENDED_TLV_LENGTH.false in
-    let told = sym (ap counted_answer c.in-Entries.is) ∙ c.count_entries.ensures in
+    let told = c.in_ok-count_entries.ensures in
     let b = bytes c.args.choice c.args.ty c.args.value.now _ _ _ c.kept_extent-rest.ensures.0 (c.entry_size.ensures ∙ entry_size_lem _ long) in
     let n = number c.args.choice c.args.ty c.args.value.now _ _ c.kept_extent-rest.ensures.0 in
     let result = added c.args.choice c.args.ty c.args.value.now (contents (framing c.args.s.now).entries) in
@@ -77,13 +76,13 @@ returns-then-need-out c =
 
 pub put_kept-requires : goal.put_kept-requires
 put_kept-requires c =
-    let told = sym (ap counted_answer c.in-Entries.is) ∙ c.count_entries.ensures in
+    let told = c.in_ok-count_entries.ensures in
     (counted_short _ _ _ told, omega (arith, ap (λ (x : Extent). x.bytes) c.kept_extent-rest.ensures.0))
 
 pub returns : goal.returns
 returns c =
     let long = c.if-value-gt-MAX_EXTENDED_TLV_LENGTH.false in
-    let counted = sym (ap counted_answer c.in-Entries.is) ∙ c.count_entries.ensures in
+    let counted = c.in_ok-count_entries.ensures in
     let rest = ap (λ (x : Extent). x.bytes) c.kept_extent-rest.ensures.0 in
     let new = c.entry_size.ensures ∙ entry_size_lem _ long in
     let b = bytes c.args.choice c.args.ty c.args.value.now _ _ _ c.kept_extent-rest.ensures.0 new in

@@ -5,7 +5,6 @@ use native.Mathlib.Omega.{arith}
 use borrow.Author.Tests.{le-leb, lt-leb}
 use Rattle.refusal.specs.Sizes.{most_short, most_value}
 use Rattle.tlv_writing.specs.Encode.{size_of, entry_size}
-use borrow.Author.Rules.{rules}
 use Rattle.tlv_writing.proofs.entry_size.Goals as goal
 
 module _ (n : ℕ) where

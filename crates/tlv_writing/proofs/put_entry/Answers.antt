@@ -3,7 +3,6 @@ use mathlib.Core.Path.{◌∙◌}
 use native.Mathlib.Omega.{arith}
 use lib.ListN.{length}
 use Rattle.tlv_writing.proofs.Encodes.{size_header, entry_size_lem, too_long_placed, no_room_placed, value_placed}
-use borrow.Author.Rules.{rules}
 use Rattle.tlv_writing.proofs.put_entry.Goals as goal
 
 pub returns-then-n-gt-MAX_EXTENDED_TLV_LENGTH : goal.returns-then-n-gt-MAX_EXTENDED_TLV_LENGTH

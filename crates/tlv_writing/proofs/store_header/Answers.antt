@@ -3,7 +3,6 @@ use mathlib.Core.Path.{refl}
 use native.Mathlib.Omega.{arith}
 use lib.ListN.{length-set}
 use Rattle.tlv_writing.proofs.Encodes.{header_short, header_long, header_two, header_four, put_short, put_long}
-use borrow.Author.Rules.{rules}
 use Rattle.tlv_writing.proofs.store_header.Goals as goal
 
 pub bounds-out-at : goal.bounds-out-at

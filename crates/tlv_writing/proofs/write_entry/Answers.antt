@@ -4,7 +4,6 @@ use native.Mathlib.Omega.{arith}
 use native.Mathlib.Nat.{zero-add}
 use Rattle.laws.proofs.Emits.{emit_refused, emit_no_room, emit_done, placed_next, placed_left}
 use Rattle.tlv_writing.proofs.Encodes.{entry_size_lem, length_encode, encoded_too_long, encoded_fits, entry_placed}
-use borrow.Author.Rules.{rules}
 use Rattle.tlv_writing.proofs.write_entry.Goals as goal
 
 pub returns-then-value-gt-MAX_EXTENDED_TLV_LENGTH : goal.returns-then-value-gt-MAX_EXTENDED_TLV_LENGTH

@@ -1,8 +1,7 @@
--- `wire_bytes::u16_bytes` meets its contract: the definition, computed.
-use mathlib.Core.Path.{refl}
-use Rattle.wire_bytes.specs.Bytes.{bytes_of}
+-- `wire_bytes::u16_bytes` meets its contract.
+use mathlib.Core.Path.{◌∙◌}
+use Rattle.wire_bytes.proofs.Highest.{highest_first}
 use Rattle.wire_bytes.proofs.u16_bytes.Goals as goal
 
 pub returns : goal.returns
-unfolding bytes_of
-returns c = refl
+returns c = c.to_be_bytes.ensures ∙ highest_first 2 c.args.x

@@ -1,11 +1,8 @@
--- `diag_writing::checks::pass_lists` meets its contract. The invariant: f is what the first i rows make of the flag that it began with.
-use Rattle.std.proofs.Common.{◌≡◌, ◌-◌, ◌≤◌, take}
+-- `diag_writing::checks::pass_lists` meets its contract. The invariant: f is what the rows so far make of it.
+use Rattle.std.proofs.Common.{◌≡◌, take}
 use Rattle.tables.specs.Fold.{fold}
-use Rattle.diag_writing.specs.Checks.{passed_list}
+use Rattle.diag_writing.specs.Checks.{no_lists, passed_list}
 use Rattle.diag_writing.proofs.checks.pass_lists.Given as goal
 
-abbrev pub invariant-loop-i : goal.invariant-loop-i
-invariant-loop-i l = (l.i ≤ l.n) × (l.f ≡ fold passed_list l.fn.f (take l.i l.table))
-
-abbrev pub decreases-loop-i : goal.decreases-loop-i
-decreases-loop-i l = l.n - l.i
+abbrev pub invariant-loop-x : goal.invariant-loop-x
+invariant-loop-x l = l.f ≡ fold passed_list (no_lists l.bytes) (take l.x-index l.table)

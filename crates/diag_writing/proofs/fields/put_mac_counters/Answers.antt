@@ -2,18 +2,18 @@
 use mathlib.Core.Path.{ap}
 use native.Mathlib.Omega.{arith}
 use Rattle.value_writing.specs.Encode.{counters_bytes}
-use Rattle.diag.specs.Answers.{opt_mac_counters}
 use Rattle.value_writing.proofs.Round.{counters_size}
 use Rattle.diag_writing.proofs.Entries.{fixed_room, given_wrote, absent_wrote}
 use Rattle.diag_writing.proofs.fields.put_mac_counters.Goals as goal
+use Rattle.refusal.specs.Results.{option_of}
 
 pub put_value-requires : goal.put_value-requires
 put_value-requires c =
-    fixed_room counters_bytes 9 _ c.args.at c.args.out.now _ _ (ap opt_mac_counters c.in-Some.is) c.counters_bytes-a.ensures _ counters_size (omega arith) c.requires
+    fixed_room counters_bytes 9 _ c.args.at c.args.out.now _ _ (ap option_of c.in-Some.is) c.counters_bytes-a.ensures _ counters_size (omega arith) c.requires
 
 pub returns-in-Some : goal.returns-in-Some
 returns-in-Some c =
-    given_wrote counters_bytes _ _ _ _ _ _ (ap opt_mac_counters c.in-Some.is) c.counters_bytes-a.ensures _ _ c.put_value.ensures
+    given_wrote counters_bytes _ _ _ _ _ _ (ap option_of c.in-Some.is) c.counters_bytes-a.ensures _ _ c.put_value.ensures
 
 pub returns-in-None : goal.returns-in-None
-returns-in-None c = absent_wrote counters_bytes _ _ _ _ (ap opt_mac_counters c.in-None.is)
+returns-in-None c = absent_wrote counters_bytes _ _ _ _ (ap option_of c.in-None.is)

@@ -18,7 +18,7 @@ put_mark-requires c =
     let some = ap length (mark_some c.args.mark c.args.n c.args.bytes c.if-n-eq0.false) in
     omega arith
 
-pub returns : goal.returns
-returns c =
+pub returns-else-n-eq0 : goal.returns-else-n-eq0
+returns-else-n-eq0 c =
     let some = mark_some c.args.mark c.args.n c.args.bytes c.if-n-eq0.false in
     (c.put_mark.ensures.0 ∙ omega (arith, ap length some), c.put_mark.ensures.1 ∙ ap (put _ _) (sym some))

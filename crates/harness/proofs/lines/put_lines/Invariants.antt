@@ -1,7 +1,6 @@
 -- `lines::put_lines` is safe and ends, since each turn takes a line. Assumes nothing.
 use Prim.Native.Nat.{◌-◌}
 use lib.ListN.{length}
-use borrow.Author.Rules.{rules}
 use Rattle.harness.proofs.lines.put_lines.Given as goal
 
 abbrev pub invariant-loop-start : goal.invariant-loop-start

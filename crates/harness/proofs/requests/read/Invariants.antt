@@ -1,7 +1,6 @@
 -- `requests::read` is safe and ends, since each turn passes a blank. Assumes nothing.
 use Prim.Native.Nat.{◌≤◌, ◌-◌}
 use lib.ListN.{length}
-use borrow.Author.Rules.{rules}
 use Rattle.harness.proofs.requests.read.Given as goal
 
 abbrev pub invariant-loop-blank : goal.invariant-loop-blank

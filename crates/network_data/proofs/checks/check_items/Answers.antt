@@ -3,13 +3,15 @@
 use borrow.Author.Rules.{rules}
 use mathlib.Core.Path.{refl, sym, ap, ◌∙◌}
 use native.Mathlib.Omega.{arith}
-use Rattle.network_data.specs.Answers.{checked_answer}
 use Rattle.network_data.specs.Rules.{check_from, check_value}
 use Rattle.network_framing.proofs.Walks.{turn_end, turn_cut, turn_inside}
 use Rattle.network_walker.proofs.Shifts.{left_less}
 use Rattle.network_data.proofs.Passes.{out_end, out_cut}
 use Rattle.network_data.proofs.Moved.{items_skip, items_more, items_refused}
+use Rattle.refusal.proofs.Papers.{passes}
 use Rattle.network_data.proofs.checks.check_items.Goals as goal
+use Rattle.network_data.proofs.checks.check_items.Goals.{then-ty-eq-NETWORK_DATA_PREFIX+in_ok-c-in-Item, else-ty-eq-NETWORK_DATA_PREFIX}
+use Rattle.refusal.specs.Results.{answer_of}
 
 pub loop-ty-init : goal.loop-ty-init
 unfolding check_value
@@ -29,24 +31,26 @@ overflow_add-value c = omega (arith, turn_inside _ _ _ _ c.first_tlv.ensures _ _
 pub slice_bounds-value-end : goal.slice_bounds-value-end
 slice_bounds-value-end c = omega (arith, turn_inside _ _ _ _ c.first_tlv.ensures _ _ _ c.in-Item.is)
 
-pub loop-ty-smaller-in-Counted : goal.loop-ty-smaller-in-Counted
-loop-ty-smaller-in-Counted c = left_less _ _ c.first_tlv.ensures _ _ _ c.in-Item.is _ c.after_first-left.ensures
-
-pub loop-ty-preserved-in-Counted : goal.loop-ty-preserved-in-Counted
-loop-ty-preserved-in-Counted c =
-    let passed = sym (ap checked_answer c.in-Counted.is) ∙ c.check_prefix.ensures in
-    let less = left_less _ _ c.first_tlv.ensures _ _ _ c.in-Item.is _ c.after_first-left.ensures in
-    (omega (arith, less, c.loop-ty.invariant.0), items_more _ _ _ _ c.first_tlv.ensures _ _ _ c.in-Item.is _ c.after_first-left.ensures c.if-ty-eq-NETWORK_DATA_PREFIX.true _ passed ∙ c.loop-ty.invariant.1)
-
-pub returns-in-Refused : goal.returns-in-Refused
-returns-in-Refused c =
-    let stopped = sym (ap checked_answer c.in-Refused.is) ∙ c.check_prefix.ensures in
-    items_refused _ _ _ _ c.first_tlv.ensures _ _ _ c.in-Item.is _ c.after_first-left.ensures c.if-ty-eq-NETWORK_DATA_PREFIX.true _ _ _ stopped ∙ c.loop-ty.invariant.1
+pub returns-in_err-c-in-Item : goal.returns-in_err-c-in-Item
+returns-in_err-c-in-Item c =
+    ap answer_of (passes _ _ c.from_residual.ensures.1)
+    ∙ items_refused _ _ _ _ c.first_tlv.ensures _ _ _ c.in-Item.is _ refl c.if-ty-eq-NETWORK_DATA_PREFIX.true _ _ _ c.in_err-c-in-Item.ensures
+    ∙ c.loop-ty.invariant.1
 
 pub loop-ty-smaller : goal.loop-ty-smaller
-loop-ty-smaller c = left_less _ _ c.first_tlv.ensures _ _ _ c.in-Item.is _ c.after_first-left.ensures
+loop-ty-smaller c = left_less _ _ c.first_tlv.ensures _ _ _ c.in-Item.is _ c.after_first-rest.ensures
 
 pub loop-ty-preserved : goal.loop-ty-preserved
 loop-ty-preserved c =
-    let less = left_less _ _ c.first_tlv.ensures _ _ _ c.in-Item.is _ c.after_first-left.ensures in
-    (omega (arith, less, c.loop-ty.invariant.0), items_skip _ _ _ _ c.first_tlv.ensures _ _ _ c.in-Item.is _ c.after_first-left.ensures c.if-ty-eq-NETWORK_DATA_PREFIX.false ∙ c.loop-ty.invariant.1)
+    let less = left_less _ _ c.first_tlv.ensures _ _ _ c.in-Item.is _ c.after_first-rest.ensures in (
+      omega (arith, less, c.loop-ty.invariant.0),
+      elim c.if-ty-eq-NETWORK_DATA_PREFIX.branch [
+        | then-ty-eq-NETWORK_DATA_PREFIX+in_ok-c-in-Item w ↦
+            rw w.c-is
+            (items_more _ _ _ _ c.first_tlv.ensures _ _ _ c.in-Item.is _ c.after_first-rest.ensures w.if-ty-eq-NETWORK_DATA_PREFIX.true _ w.in_ok-c-in-Item.ensures
+            ∙ c.loop-ty.invariant.1)
+        | else-ty-eq-NETWORK_DATA_PREFIX w ↦
+            rw w.c-is
+            (items_skip _ _ _ _ c.first_tlv.ensures _ _ _ c.in-Item.is _ c.after_first-rest.ensures w.if-ty-eq-NETWORK_DATA_PREFIX.false ∙ c.loop-ty.invariant.1)
+      ],
+    )

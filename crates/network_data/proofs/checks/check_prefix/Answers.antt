@@ -9,29 +9,29 @@ use Rattle.network_data.specs.Rules.{check_prefix, check_head}
 use Rattle.network_data.proofs.Moved.{inner_value, head_begins}
 use Rattle.network_data.proofs.checks.check_prefix.Goals as goal
 
-pub returns-then-n-ge-MAX_PREFIXES : goal.returns-then-n-ge-MAX_PREFIXES
+pub returns-then-before-ge-MAX_PREFIXES : goal.returns-then-before-ge-MAX_PREFIXES
 unfolding check_prefix
-returns-then-n-ge-MAX_PREFIXES c =
+returns-then-before-ge-MAX_PREFIXES c =
     let full : most_prefixes ≤ c.args.before.prefixes = omega arith in
     c.refuse.ensures ∙ simp (le-leb _ _ full)
 
 pub slice_bounds-check_inner-count : goal.slice_bounds-check_inner-count
-slice_bounds-check_inner-count c = head_begins _ _ _ _ _ c.head_at.ensures c.in-Inner.is
+slice_bounds-check_inner-count c = head_begins _ _ _ _ _ c.head_at.ensures c.in-Some.is
 
 pub slice_bounds-check_inner-start : goal.slice_bounds-check_inner-start
-slice_bounds-check_inner-start c = head_begins _ _ _ _ _ c.head_at.ensures c.in-Inner.is
+slice_bounds-check_inner-start c = head_begins _ _ _ _ _ c.head_at.ensures c.in-Some.is
 
-pub returns-in-Short : goal.returns-in-Short
+pub returns-in-None : goal.returns-in-None
 unfolding check_prefix check_head
-returns-in-Short c =
+returns-in-None c =
     let room : c.args.before.prefixes < most_prefixes = omega arith in
-    c.refuse-in-Short.ensures ∙ simp (lt-leb _ _ room, sym c.head_at.ensures ∙ ap head_answer c.in-Short.is)
+    c.refuse-in-None.ensures ∙ simp (lt-leb _ _ room, sym c.head_at.ensures ∙ ap head_answer c.in-None.is)
 
-pub returns-in-Inner : goal.returns-in-Inner
+pub returns-in-Some : goal.returns-in-Some
 unfolding check_prefix check_head
-returns-in-Inner c =
+returns-in-Some c =
     let b = c.args.before in
     let room : b.prefixes < most_prefixes = omega arith in
     c.check_inner.ensures
-    ∙ inner_value _ _ _ _ c.head_at.ensures c.in-Inner.is b _ (omega arith) (omega arith) (omega arith)
-    ∙ simp (lt-leb _ _ room, sym c.head_at.ensures ∙ ap head_answer c.in-Inner.is)
+    ∙ inner_value _ _ _ _ c.head_at.ensures c.in-Some.is b _ (omega arith) (omega arith) (omega arith)
+    ∙ simp (lt-leb _ _ room, sym c.head_at.ensures ∙ ap head_answer c.in-Some.is)

@@ -5,7 +5,6 @@ use native.Mathlib.Omega.{arith}
 use Rattle.network_framing.proofs.Walks.{turn_items, turn_none, turn_inside}
 use Rattle.network_data.specs.Decode.{last_context}
 use Rattle.network_tables.proofs.Seeks.{context_none, context_hit, context_odd, context_miss}
-use borrow.Enum.Refused.{opened}
 use Rattle.network_tables.proofs.prefixes.context_in.Goals as goal
 
 pub loop-ty-init : goal.loop-ty-init
@@ -38,6 +37,6 @@ pub loop-ty-preserved : goal.loop-ty-preserved
 loop-ty-preserved c =
     sym (context_miss _ _ _ _ c.if-ty-eq-NETWORK_DATA_6LOWPAN_CONTEXT.false) ∙ ap (last_context _ _) (sym (turn_items _ _ _ _ c.sub_in.ensures _ _ _ c.in-Item.is)) ∙ c.loop-ty.invariant
 
-pub returns-in_default : goal.returns-in_default
-returns-in_default c =
-    sym (context_none _ _) ∙ ap (last_context _ _) (sym (turn_none _ _ _ c.sub_in.result c.sub_in.ensures (opened c.in_default.in_default-own.keys2))) ∙ c.loop-ty.invariant
+pub returns : goal.returns
+returns c =
+    sym (context_none _ _) ∙ ap (last_context _ _) (sym (turn_none _ _ _ c.sub_in.result c.sub_in.ensures c.in_default.not-Item)) ∙ c.loop-ty.invariant

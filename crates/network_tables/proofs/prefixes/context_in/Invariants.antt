@@ -4,12 +4,12 @@ use mathlib.Core.Path.{◌≡◌}
 use Prim.Native.Nat.{◌-◌}
 use Rattle.network_framing.specs.Frame.{walk_in}
 use Rattle.refusal.specs.Answer.{absent}
+use Rattle.refusal.specs.Results.{option_of}
 use Rattle.network_data.specs.Decode.{last_context}
-use Rattle.network_tables.specs.Answers.{context_answer}
 use Rattle.network_tables.proofs.prefixes.context_in.Given as goal
 
 abbrev pub invariant-loop-ty : goal.invariant-loop-ty
-invariant-loop-ty l = last_context l.s (context_answer l.x) (walk_in l.s l.at l.end).items ≡ last_context l.s absent (walk_in l.s l.initial.at l.end).items
+invariant-loop-ty l = last_context l.s (option_of l.x) (walk_in l.s l.at l.end).items ≡ last_context l.s absent (walk_in l.s l.initial.at l.end).items
 
 abbrev pub decreases-loop-ty : goal.decreases-loop-ty
 decreases-loop-ty l = l.end - l.at

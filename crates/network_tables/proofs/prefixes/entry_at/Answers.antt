@@ -10,9 +10,9 @@ overflow_cast-n c = omega (arith, c.type_inv.s (c.args.x.start + 1))
 pub overflow_add-n : goal.overflow_add-n
 overflow_add-n c = omega (arith, c.type_inv.s (c.args.x.start + 1))
 
-pub copy_bytes-bytes-requires : goal.copy_bytes-bytes-requires
-copy_bytes-bytes-requires c = (omega (arith, c.type_inv.s (c.args.x.start + 1)), omega arith)
+pub copy_bytes-requires : goal.copy_bytes-requires
+copy_bytes-requires c = (omega (arith, c.type_inv.s (c.args.x.start + 1)), omega arith)
 
 pub returns : goal.returns
 returns c =
-    entry_is c.args.s.now c.args.x c.requires _ _ _ _ c.copy_bytes-bytes.ensures c.context_in-context.ensures c.rows_in-routes.ensures c.rows_in-borders.ensures
+    entry_is c.args.s.now c.args.x c.requires _ _ _ _ c.copy_bytes.ensures c.context_in.ensures c.rows_in.ensures c.rows_in-2.ensures

@@ -5,7 +5,6 @@ use native.Mathlib.Omega.{arith}
 use Rattle.network_framing.proofs.Walks.{turn_items, turn_none, turn_inside}
 use Rattle.network_tables.specs.Cursor.{span_of}
 use Rattle.network_tables.proofs.Seeks.{span_none, span_hit, span_miss}
-use borrow.Enum.Refused.{opened}
 use Rattle.network_tables.proofs.prefixes.find_prefix.Goals as goal
 
 pub loop-ty-init : goal.loop-ty-init
@@ -25,6 +24,5 @@ pub loop-ty-preserved : goal.loop-ty-preserved
 loop-ty-preserved c =
     sym (span_miss _ _ c.if-ty-eq-NETWORK_DATA_PREFIX.false) ∙ ap span_of (sym (turn_items _ _ _ _ c.sub_at.ensures _ _ _ c.in-Item.is)) ∙ c.loop-ty.invariant
 
-pub returns-in_default : goal.returns-in_default
-returns-in_default c =
-    sym span_none ∙ ap span_of (sym (turn_none _ _ _ c.sub_at.result c.sub_at.ensures (opened c.in_default.in_default-own.keys2))) ∙ c.loop-ty.invariant
+pub returns : goal.returns
+returns c = sym span_none ∙ ap span_of (sym (turn_none _ _ _ c.sub_at.result c.sub_at.ensures c.in_default.not-Item)) ∙ c.loop-ty.invariant

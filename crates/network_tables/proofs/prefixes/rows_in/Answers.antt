@@ -10,7 +10,6 @@ use native.Mathlib.Nat.{div-le_self, zero-add}
 use Rattle.network_data.specs.Decode.{places_in}
 use Rattle.network_tables.proofs.Seeks.{rows_none, rows_more, rows_same}
 use mathlib.Core.List.{List}
-use borrow.Enum.Refused.{opened}
 use Rattle.network_tables.proofs.prefixes.rows_in.Goals as goal
 
 pub loop-t-init : goal.loop-t-init
@@ -42,8 +41,8 @@ loop-t-preserved c =
     let one = ap (λ (l : List Piece). length (places_in a.ty a.size l)) (turn_items _ _ _ _ c.sub_in.ensures _ _ _ c.in-Item.is) ∙ rows_same a.ty a.size _ _ c.if-t-ty.false in
     (omega arith, omega (arith, c.loop-t.invariant.1))
 
-pub returns-in_default : goal.returns-in_default
-returns-in_default c =
+pub returns : goal.returns
+returns c =
     let a = c.args in
-    let one = ap (λ (l : List Piece). length (places_in a.ty a.size l)) (turn_none _ _ _ c.sub_in.result c.sub_in.ensures (opened c.in_default.in_default-own.keys2)) ∙ rows_none a.ty a.size in
+    let one = ap (λ (l : List Piece). length (places_in a.ty a.size l)) (turn_none _ _ _ c.sub_in.result c.sub_in.ensures c.in_default.not-Item) ∙ rows_none a.ty a.size in
     omega (arith, c.loop-t.invariant.1)

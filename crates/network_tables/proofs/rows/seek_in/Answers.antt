@@ -5,7 +5,6 @@ use native.Mathlib.Omega.{arith}
 use Rattle.network_framing.proofs.Walks.{turn_items, turn_none, turn_inside}
 use Rattle.network_tables.specs.Cursor.{rows_in}
 use Rattle.network_tables.proofs.Seeks.{in_empty, in_miss, in_hit, in_none}
-use borrow.Enum.Refused.{opened}
 use Rattle.network_tables.proofs.rows.seek_in.Goals as goal
 
 pub loop-t-init : goal.loop-t-init
@@ -32,6 +31,6 @@ pub loop-t-preserved : goal.loop-t-preserved
 loop-t-preserved c =
     sym (in_miss _ _ _ _ _ c.if-t-ty.false) ∙ ap (rows_in _ _ _) (sym (turn_items _ _ _ _ c.sub_in.ensures _ _ _ c.in-Item.is)) ∙ c.loop-t.invariant
 
-pub returns-in_default : goal.returns-in_default
-returns-in_default c =
-    c.no_rows.ensures ∙ sym (in_empty _ _ _) ∙ ap (rows_in _ _ _) (sym (turn_none _ _ _ c.sub_in.result c.sub_in.ensures (opened c.in_default.in_default-own.keys2))) ∙ c.loop-t.invariant
+pub returns : goal.returns
+returns c =
+    c.no_rows.ensures ∙ sym (in_empty _ _ _) ∙ ap (rows_in _ _ _) (sym (turn_none _ _ _ c.sub_in.result c.sub_in.ensures c.in_default.not-Item)) ∙ c.loop-t.invariant

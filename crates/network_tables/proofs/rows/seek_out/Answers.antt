@@ -6,7 +6,6 @@ use native.Mathlib.Omega.{arith}
 use Rattle.network_framing.proofs.Walks.{turn_items, turn_none, turn_inside}
 use Rattle.network_tables.specs.Cursor.{rows_out}
 use Rattle.network_tables.proofs.Seeks.{out_empty, seek_miss, seek_hit, seek_none}
-use borrow.Enum.Refused.{opened}
 use Rattle.network_tables.proofs.rows.seek_out.Goals as goal
 
 pub loop-t-init : goal.loop-t-init
@@ -38,6 +37,6 @@ pub loop-t-preserved : goal.loop-t-preserved
 loop-t-preserved c =
     sym (seek_miss _ _ _ _ _ c.if-t-eq-NETWORK_DATA_PREFIX.false) ∙ ap (rows_out _ _ _) (sym (turn_items _ _ _ _ c.sub_at.ensures _ _ _ c.in-Item.is)) ∙ c.loop-t.invariant
 
-pub returns-in_default : goal.returns-in_default
-returns-in_default c =
-    c.no_rows.ensures ∙ sym (out_empty _ _ _) ∙ ap (rows_out _ _ _) (sym (turn_none _ _ _ c.sub_at.result c.sub_at.ensures (opened c.in_default.in_default-own.keys2))) ∙ c.loop-t.invariant
+pub returns : goal.returns
+returns c =
+    c.no_rows.ensures ∙ sym (out_empty _ _ _) ∙ ap (rows_out _ _ _) (sym (turn_none _ _ _ c.sub_at.result c.sub_at.ensures c.in_default.not-Item)) ∙ c.loop-t.invariant

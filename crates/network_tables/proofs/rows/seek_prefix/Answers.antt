@@ -5,12 +5,12 @@ use Rattle.network_data.specs.Decode.{inner, head_items}
 use Rattle.network_tables.proofs.Seeks.{in_empty}
 use Rattle.network_tables.proofs.rows.seek_prefix.Goals as goal
 
-pub returns-in-Inner : goal.returns-in-Inner
+pub returns-in-Some : goal.returns-in-Some
 unfolding inner head_items
-returns-in-Inner c = c.seek_in.ensures ∙ simp (sym c.head_at.ensures ∙ ap head_answer c.in-Inner.is)
+returns-in-Some c = c.seek_in.ensures ∙ simp (sym c.head_at.ensures ∙ ap head_answer c.in-Some.is)
 
-pub returns-in-Short : goal.returns-in-Short
+pub returns-in-None : goal.returns-in-None
 unfolding inner head_items
-returns-in-Short c =
+returns-in-None c =
     let a = c.args in
-    c.no_rows.ensures ∙ sym (in_empty a.ty a.size a.end) ∙ simp (sym c.head_at.ensures ∙ ap head_answer c.in-Short.is)
+    c.no_rows.ensures ∙ sym (in_empty a.ty a.size a.end) ∙ simp (sym c.head_at.ensures ∙ ap head_answer c.in-None.is)

@@ -3,4 +3,4 @@ use Rattle.network_walker.proofs.Rests.{rest_part}
 use Rattle.network_walker.proofs.framing.rest_of.Goals as goal
 
 pub returns : goal.returns
-returns c = rest_part _ _ c.rest_at-at.ensures
+returns c = rest_part _ _ c.rest_at.ensures

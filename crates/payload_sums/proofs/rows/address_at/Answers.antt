@@ -8,7 +8,7 @@ use Rattle.payload_sums.proofs.Rowed.{past}
 use Rattle.payload_sums.proofs.rows.address_at.Goals as goal
 
 pub returns-then-a-gt15 : goal.returns-then-a-gt15
-returns-then-a-gt15 c = c.wide.ensures ∙ ap (λ (l : List ℕ). get_or l 15 0) c.address-a.ensures
+returns-then-a-gt15 c = c.from.ensures ∙ ap (λ (l : List ℕ). get_or l 15 0) c.address-a.ensures
 
 pub returns : goal.returns
 returns c =

@@ -1,22 +1,16 @@
--- `payload_sums::rows::mask_sum` meets its contract. The invariant: what is summed so far is the sum of k bytes.
+-- `payload_sums::rows::mask_sum` meets its contract.
 use mathlib.Core.Path.{refl}
 use native.Mathlib.Omega.{arith}
 use Rattle.payload_sums.specs.Rows.{summed}
 use Rattle.payload_sums.proofs.Rowed.{summed_more, summed_done}
-use borrow.Author.Rules.{rules}
 use Rattle.payload_sums.proofs.rows.mask_sum.Goals as goal
 
-pub loop-k-init : goal.loop-k-init
+pub loop-b-init : goal.loop-b-init
 unfolding summed
-loop-k-init c = (search rules, refl)
+loop-b-init c = refl
 
-pub loop-k-preserved : goal.loop-k-preserved
-loop-k-preserved c =
-    let l = c.loop-k in
-    (omega arith, summed_more _ _ _ _ _ l.invariant.1 c.plus-n.ensures refl)
+pub loop-b-preserved : goal.loop-b-preserved
+loop-b-preserved c = summed_more _ _ _ _ _ c.loop-b.invariant c.plus-n.ensures c.from.ensures
 
 pub returns : goal.returns
-returns c =
-    let l = c.loop-k in
-    let all = c.loop-k-test.false in
-    summed_done _ _ _ _ l.invariant.1 (omega (arith, l.invariant.0))
+returns c = summed_done _ _ _ _ c.loop-b.invariant (omega arith)

@@ -10,6 +10,6 @@ routes_sum-requires c = c.requires
 pub returns : goal.returns
 unfolding route64_sum
 returns c =
-    let n1 = adds c.plus-a.ensures refl refl in
-    let n2 = adds c.plus-b.ensures n1 c.mask_sum.ensures in
-    adds c.plus.ensures n2 c.routes_sum.ensures
+    let n1 = adds c.plus.ensures refl c.from.ensures in
+    let n2 = adds c.plus-n.ensures n1 c.mask_sum.ensures in
+    adds c.plus-2.ensures n2 c.routes_sum.ensures

@@ -1,6 +1,5 @@
 -- `speed::filled::rows_of` meets its contract.
 use Rattle.speed.specs.Filled.{rows_of}
-use borrow.Author.Rules.{rules}
 use Rattle.speed.proofs.filled.rows_of.Goals as goal
 
 pub returns : goal.returns

@@ -1,8 +1,5 @@
 -- `dataset_texts::masks::put_items` is safe and ends, since an item lies within the mask and takes some of it. Assumes nothing.
-use Prim.Native.Nat.{◌≤◌, ◌-◌}
-use lib.ListN.{length}
 use native.Mathlib.Omega.{arith}
-use borrow.Author.Rules.{rules}
 use Rattle.channel_masks.proofs.Items.{turn_inside}
 use Rattle.harness.proofs.dataset_texts.masks.put_items.Goals as goal
 

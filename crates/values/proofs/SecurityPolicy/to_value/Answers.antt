@@ -1,8 +1,0 @@
--- `values::SecurityPolicy::to_value` meets its contract: the definition, computed.
-use mathlib.Core.Path.{refl}
-use Rattle.wire_bytes.specs.Bytes.{bytes_of}
-use Rattle.values.proofs.SecurityPolicy.to_value.Goals as goal
-
-pub returns : goal.returns
-unfolding bytes_of
-returns c = refl
