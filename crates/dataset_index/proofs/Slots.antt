@@ -2,7 +2,7 @@
 -- Assumes nothing.
 use mathlib.Core.Path.{◌≡◌, refl, sym, ◌∙◌}
 use mathlib.Core.List.{List, [], ◌∷◌, ◌++◌}
-use Prim.Native.Nat.{ℕ, zero, suc, ◌+◌, ◌*◌, ◌≤◌}
+use Prim.Native.Nat.{ℕ, zero, suc, ◌+◌, ◌*◌, ◌≤◌, ◌<◌}
 use native.Mathlib.Omega.{arith}
 use native.Mathlib.Numerals.{add-one}
 use lib.ListN.{length, get_or, set, length-append}
@@ -10,9 +10,11 @@ use Rattle.refusal.specs.Output.{put}
 use Rattle.laws.proofs.Puts.{put_byte}
 use Rattle.wire_bytes.specs.Bytes.{bytes_of}
 use Rattle.wire.proofs.Round.{length_bytes}
+use borrow.Author.Tests.{lt-ltb}
+use Rattle.refusal.specs.Sizes.{most_bytes}
 use Rattle.refusal.specs.Answer.{given, refused}
 use Rattle.tlv.specs.Entries.{Entry, framing}
-use Rattle.tlv.specs.Limits.{count}
+use Rattle.tlv.specs.Limits.{count, framed}
 use Rattle.tlv.proofs.Tally.{answers_given, answers_refused}
 use Rattle.dataset_index.specs.Index.{how_many, last_place, slots, index_bytes, index_size, built}
 use Rattle.dataset_index.specs.Loops.{Indexed, slots_in}
@@ -54,7 +56,11 @@ unfolding index_bytes
 index_put x s i out left w =
     w ∙ rw (slots_are x s i 256 0 (omega arith)) (sym (marked out (slots 0 256 (framing s).entries) 0x49 0x58))
 
--- ---- what `build` answers, by what the count said of the entries
+-- ---- what `build` answers, by the size of the dataset and by what the walk said of its entries
+pub built_large : (s : List ℕ) → most_bytes < length s → refused 1 0 0 ≡ built s
+unfolding built framed
+built_large s h = simp (lt-ltb _ _ h)
+
 pub built_given : (s : List ℕ) (n : ℕ) → given n ≡ count 0 s → built s ≡ given (index_bytes (framing s).entries)
 unfolding built
 built_given s n e = answers_given 0 index_bytes s n e

@@ -1,24 +1,25 @@
 -- How the loop of `collect` fills its table: what is noted, and what is still to be passed.
 -- Assumes nothing.
-use mathlib.Core.Path.{◌≡◌, refl, sym, ap, ◌∙◌}
+use mathlib.Core.Path.{◌≡◌, refl, sym, ap, ◌∙◌, subst}
 use mathlib.Core.Bool.{Bool, true, false}
 use mathlib.Core.List.{List, [], ◌∷◌}
 use Prim.Native.Nat.{ℕ, suc, ◌+◌, ◌≤◌, ◌<◌}
 use native.Mathlib.Omega.{arith}
 use native.Mathlib.Nat.{zero-add}
 use lib.Dec.{eqb}
-use lib.ListN.{length, get_or, set, replicate, length-set, get_or-replicate}
+use lib.ListN.{length, get_or, set, replicate, take, drop, length-set, get_or-replicate}
 use lib.Seq.{get_or-set_same, get_or-set_other}
 use borrow.Author.Tests.{eqb-true, eqb-false, eq-eqb, ne_eqb}
 use Rattle.refusal.specs.Answer.{pick, Answer, given, absent}
-use Rattle.refusal.specs.Sizes.{most_bytes, most_entries}
-use Rattle.refusal.specs.Every.{Every}
 use Rattle.laws.proofs.Tests.{by_test}
-use Rattle.laws.proofs.Answers.{gives}
-use Rattle.tlv.specs.Entries.{Entry, framing}
-use Rattle.tlv.specs.Limits.{count, framed}
-use Rattle.tlv.proofs.Walks.{Lies, framing_lies}
-use Rattle.tlv.proofs.Whole.{framed_whole}
+use Rattle.laws.proofs.Parts.{length_part}
+use Rattle.tlv.specs.Entries.{Entry, entry, clean, cut_at, Framing, done, onto, framing}
+use Rattle.tlv.specs.Place.{frame_at}
+use Rattle.tlv.specs.Walk.{entries_from}
+use Rattle.tlv.specs.declared.Frame.{Frame}
+use Rattle.tlv.specs.declared.Frame.TheVariants as f
+use Rattle.tlv.proofs.Walks.{from, Inside, inside, turn_end, turn_cut, turn_entry, turn_inside}
+use Rattle.tlv.proofs.Left.{left_is, left_entry}
 use Rattle.tlv_last.specs.Last.{last_of}
 use Rattle.dataset_index.specs.Index.{how_many, place_or0, last_place}
 use Rattle.dataset_index.specs.Loops.{Indexed}
@@ -68,14 +69,6 @@ pub place_none : (t p : ℕ) → later_place t p [] ≡ p
 unfolding later_place
 place_none t p = refl
 
--- what a count says of how many are framed
-pub counted_few : (s : List ℕ) (n : ℕ) → given n ≡ count 0 s → length (framing s).entries ≤ most_entries
-unfolding count framed
-counted_few s n e =
-    let g = gives length (framed 0 s) n (sym e) in
-    let w = framed_whole most_bytes most_entries 0 s g.one g.is in
-    rw w.are w.few
-
 -- no type has more than all
 pub many_few : (ty : ℕ) (es : List Entry) → how_many ty es ≤ length es
 unfolding how_many
@@ -84,43 +77,74 @@ many_few ty (e ∷ es) =
     let h = many_few ty es in
     by_test (eqb e.ty ty) (λ t. simp t (omega arith)) (λ t. simp t (omega arith))
 
--- es are still to be passed
-pub record Finding (c p s : List ℕ) (es : List Entry) : Type 0 where
+-- a walk that hands out an entry, and has es left: the entry stood first at the walk's place, and es begin behind its value
+module _ (s : List ℕ) (at : ℕ) (e : Entry) (es : List Entry) (h : entries_from s at ≡ e ∷ es) where
+  abbrev pub Next : Type 0
+  Next = (e.place ≡ at) × (at + 2 ≤ e.start) × (e.start + length e.value ≤ length s)
+      × (from s at ≡ onto e (from s (e.start + length e.value))) × (entries_from s (e.start + length e.value) ≡ es)
+
+  next_by : (g : Frame) → g ≡ frame_at s at → Next
+  next_by f.End found =
+      absurd (let z = ap length (sym (left_is s at ∙ ap (λ (w : Framing). w.entries) (turn_end s at f.End found refl)) ∙ h) in omega (arith, z))
+  next_by f.Cut found =
+      absurd (let z = ap length (sym (left_is s at ∙ ap (λ (w : Framing). w.entries) (turn_cut s at f.Cut found refl)) ∙ h) in omega (arith, z))
+  next_by (f.Entry t a n) found =
+      let i = turn_inside s at (f.Entry t a n) found t a n refl in
+      let z : entry at t a (take n (drop a s)) ∷ entries_from s (a + n) ≡ e ∷ es = sym (left_entry s at (f.Entry t a n) found t a n refl) ∙ h in
+      let same : entry at t a (take n (drop a s)) ≡ e = cc in
+      let rest : entries_from s (a + n) ≡ es = cc in
+      rw (← same, length_part s a n i.1) (refl, i.0, i.1, turn_entry s at (f.Entry t a n) found t a n refl, rest)
+
+  pub next : Next
+  next = next_by (frame_at s at) refl
+
+-- a walk that hands out nothing: the bytes end at its place, or the entry there is cut
+module _ (s : List ℕ) (at : ℕ) (h : entries_from s at ≡ []) where
+  abbrev Ends : Type 0
+  Ends = (at < length s → from s at ≡ done (cut_at at)) × (length s ≤ at → from s at ≡ done clean)
+
+  ends_by : (g : Frame) → g ≡ frame_at s at → Ends
+  ends_by f.End found =
+      let i = subst (Inside s at) (sym found) (inside s at) in
+      (λ k. absurd (omega (arith, i, k)), λ k. turn_end s at f.End found refl)
+  ends_by f.Cut found =
+      let i = subst (Inside s at) (sym found) (inside s at) in
+      (λ k. turn_cut s at f.Cut found refl, λ k. absurd (omega (arith, i, k)))
+  ends_by (f.Entry t a n) found =
+      absurd (let z = ap length (sym (left_entry s at (f.Entry t a n) found t a n refl) ∙ h) in omega (arith, z))
+
+  pub ends : Ends
+  ends = ends_by (frame_at s at) refl
+
+-- n entries are passed, and es are still to be
+pub record Finding (c p s : List ℕ) (n : ℕ) (es : List Entry) : Type 0 where
   pub long_count : length c ≡ 256
   pub long_place : length p ≡ 256
-  pub lie : Every (Lies s) es
+  pub few : (t : ℕ) → t < 256 → get_or c t 0 ≤ n
   pub many : (t : ℕ) → t < 256 → get_or c t 0 + how_many t es ≡ how_many t (framing s).entries
   pub last : (t : ℕ) → t < 256 → later_place t (get_or p t 0) es ≡ last_place t (framing s).entries
 
-pub find_start : (s : List ℕ) (es : List Entry) → es ≡ (framing s).entries → Finding (replicate 256 0) (replicate 256 0) s es
+pub find_start : (s : List ℕ) (es : List Entry) → es ≡ (framing s).entries → Finding (replicate 256 0) (replicate 256 0) s 0 es
 find_start s es h = record {
   long_count = refl;
   long_place = refl;
-  lie = rw h (framing_lies s);
+  few = λ t k. rw (get_or-replicate {A = ℕ} 256 t 0 0 k) (omega arith);
   many = λ t k. rw (get_or-replicate {A = ℕ} 256 t 0 0 k, h) (zero-add _);
   last = λ t k. rw (get_or-replicate {A = ℕ} 256 t 0 0 k, h) (later_place_lem t (framing s).entries);
 }
 
 -- a turn: an entry, and after it es
-module _ (c p s : List ℕ) (one : Entry) (l es : List Entry) (is : l ≡ one ∷ es) (f : Finding c p s l) (small : one.ty < 256) where
-  lies_here : Every (Lies s) (one ∷ es)
-  lies_here = rw is at f.lie
-
-  -- a count and a place that fit
-  pub next_count_fits : length (framing s).entries ≤ most_entries → get_or c one.ty 0 < most_entries
-  next_count_fits few =
-      omega (arith, many_hit one.ty one es refl, ap (how_many one.ty) is, f.many one.ty small, many_few one.ty (framing s).entries)
-
-  pub next_place_fits : length s ≤ most_bytes → one.place ≤ most_bytes
-  next_place_fits short = omega (arith, lies_here.0)
-
-  pub find_more : Finding (set c one.ty (get_or c one.ty 0 + 1)) (set p one.ty one.place) s es
+module _ (c p s : List ℕ) (n : ℕ) (one : Entry) (l es : List Entry) (is : l ≡ one ∷ es) (f : Finding c p s n l) (small : one.ty < 256) where
+  pub find_more : Finding (set c one.ty (get_or c one.ty 0 + 1)) (set p one.ty one.place) s (n + 1) es
   find_more =
       let x = one.ty in
       record {
         long_count = length-set c x _ ∙ f.long_count;
         long_place = length-set p x one.place ∙ f.long_place;
-        lie = lies_here.1;
+        few = λ t k.
+            by_test (eqb t x)
+            (λ e. rw (eqb-true t x e, get_or-set_same c x (get_or c x 0 + 1) 0 (rw f.long_count small)) (let b = f.few x small in omega arith))
+            (λ e. rw (get_or-set_other c x t (get_or c x 0 + 1) 0 (eqb-false t x e)) (let b = f.few t k in omega arith));
         many = λ t k.
             by_test (eqb t x)
             (λ e.
@@ -143,8 +167,8 @@ module _ (c p s : List ℕ) (one : Entry) (l es : List Entry) (is : l ≡ one �
             (sym (place_miss t one es (get_or p t 0) (λ z. q (sym z))) ∙ ap (later_place t (get_or p t 0)) (sym is) ∙ f.last t k));
       }
 
-pub find_end : (x : Table) (s : List ℕ) (es : List Entry) → es ≡ [] → Finding x.count x.place s es → Indexed x s
-find_end x s es h f = record {
+pub find_end : (x : Table) (s : List ℕ) (n : ℕ) (es : List Entry) → es ≡ [] → Finding x.count x.place s n es → Indexed x s
+find_end x s n es h f = record {
   many = λ t k.
       let z : how_many t es ≡ 0 = ap (how_many t) h ∙ many_none t in
       omega (arith, f.many t k);

@@ -2,12 +2,13 @@
 #![tactic(auto)]
 
 ghost use Rattle.std.specs.Prelude.{◌≡◌, [], ◌∷◌, ◌+◌, ◌≤◌, length, drop, replicate};
-ghost use Rattle.refusal.specs.Sizes.{most_bytes, most_entries};
+ghost use Rattle.refusal.specs.Sizes.{most_bytes};
 ghost use Rattle.refusal.specs.Answer.{pick, given, refused};
 ghost use Rattle.refusal.specs.Output.{output, emit, put};
 ghost use Rattle.refusal.specs.Results.{answer_of, found_of};
 ghost use Rattle.wire_bytes.specs.Bytes.{bytes_of};
-ghost use Rattle.tlv.specs.Entries.{first, framing};
+ghost use Rattle.tlv.specs.Entries.{first};
+ghost use Rattle.tlv.specs.Limits.{count};
 ghost use Rattle.dataset_index.specs.Index.{index_size, built, loaded};
 ghost use Rattle.dataset_index.specs.Query.{two_at, is_framed, spot_in, by_index, value_by_index};
 ghost use Rattle.dataset_index.specs.Loops.{Indexed, slots_in};
@@ -33,6 +34,13 @@ struct Table {
     place: [u16; 256],
 }
 
+// What one pass over the entries gives: the table, and how many they are, or 2 or 3.
+#[derive(Clone, Copy)]
+struct Collected {
+    table: Table,
+    counted: Result<usize, Refusal>,
+}
+
 fn no_entries() -> Table
     ensures { (result.count ≡ replicate 256 0) × (result.place ≡ replicate 256 0) }
 {
@@ -42,19 +50,35 @@ fn no_entries() -> Table
     }
 }
 
-// The numbers of all entries, which are within the sizes.
-fn collect(s: &[u8]) -> Table
-    requires short { length s.now ≤ most_bytes }
-    requires few { length (framing s.now).entries ≤ most_entries }
-    ensures { Indexed result s.now }
+// One pass over the entries: each is noted and counted, and where they stop short of the end of s, the next one is cut.
+fn collect(s: &[u8]) -> Collected
+    requires { length s.now ≤ most_bytes }
+    ensures { Indexed result.table s.now × (answer_of result.counted ≡ count 0 s.now) }
 {
     let mut table = no_entries();
+    let mut n: usize = 0;
+    let mut over: usize = 0;
+    let mut end: usize = 0;
     for entry in tlv::entries(s) {
         let t = entry.ty as usize;
         table.count[t] += 1;
         table.place[t] = entry.place as u16;
+        if n == refusal::MAX_ENTRIES {
+            over = entry.place;
+        }
+        n += 1;
+        end = entry.start + entry.value.len();
     }
-    table
+    if end < s.len() {
+        return Collected {
+            table,
+            counted: tlv::stopped(Some(Fault::Cut), end, n, over, 0),
+        };
+    }
+    Collected {
+        table,
+        counted: tlv::stopped(None, end, n, over, 0),
+    }
 }
 
 // A number of two bytes into out from at on; the place after it.
@@ -80,13 +104,17 @@ fn put_slots(x: Table, out: &mut [u8])
 pub fn build(dataset: &[u8], out: &mut [u8]) -> Result<usize, Refusal>
     ensures { output (answer_of result) out.new ≡ emit (built dataset.now) out.old }
 {
-    tlv::count_entries(dataset, 0)?;
+    if dataset.len() > refusal::MAX_BYTES {
+        return refusal::refuse(Fault::TooLarge, 0);
+    }
+    let Collected { table, counted } = collect(dataset);
+    counted?;
     if out.len() < INDEX_BYTES {
         return refusal::refuse(Fault::NoRoom, 0);
     }
     out[0] = 0x49;
     out[1] = 0x58;
-    put_slots(collect(dataset), out);
+    put_slots(table, out);
     Ok(INDEX_BYTES)
 }
 
@@ -156,7 +184,7 @@ pub fn last_entry(dataset: &[u8], index: &[u8], ty: u8) -> Result<Option<Spot>, 
     ensures { found_of result ≡ by_index ty dataset.now index.now }
 {
     if dataset.len() > refusal::MAX_BYTES {
-        return refusal::refuse(Fault::TooLarge, 0);
+        return refusal::refuse(Fault::TooLarge, 0); // before the index is looked at
     }
     if is_framed(index) {
         let slot = 2 + 4 * (ty as usize);
