@@ -40,6 +40,17 @@ module _ (T : Ended) where
       (x : Call T c) (r q : Res T.signature x.κs) (left over : Lasts T x.κs x.passed)
       → ent x.𝓤 (sep x.𝓤 (Promise c x r left) (Promise c x q over)) (fact x.𝓤 ((seen x.κs r ≡ seen x.κs q) × (left ≡ over)))
 
+  -- the same where what was lent is not seen whole either: what `kept` sees of `left` is what it sees of `over`
+  abbrev pub OneByEach :
+      {A B : Lfts T.signature.lifetimes → Type 0}
+      → ((κs : Lfts T.signature.lifetimes) → Res T.signature κs → A κs)
+      → ((κs : Lfts T.signature.lifetimes) (passed : Args T.signature κs) → Lasts T κs passed → B κs)
+      → Contract T
+      → Type 2
+  OneByEach seen kept c =
+      (x : Call T c) (r q : Res T.signature x.κs) (left over : Lasts T x.κs x.passed)
+      → ent x.𝓤 (sep x.𝓤 (Promise c x r left) (Promise c x q over)) (fact x.𝓤 ((seen x.κs r ≡ seen x.κs q) × (kept x.κs x.passed left ≡ kept x.κs x.passed over)))
+
   -- the whole result is seen
   abbrev pub One : Contract T → Type 2
   One c = OneBy (λ (κs : Lfts T.signature.lifetimes) (r : Res T.signature κs). r) c
