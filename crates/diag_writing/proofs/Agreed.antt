@@ -28,8 +28,8 @@ use Rattle.value_writing.specs.Fits.{route64_fits, child_fits, whole_addresses, 
 use Rattle.record_writing.specs.Fits.{passes, eight_bytes}
 use Rattle.record_writing.specs.Lent.{Lent, part_bytes, route_used, network_of, children_of, list_of}
 use Rattle.record_writing.specs.Written.{counts_fit, list_inside, enough, routes_counted, tables_agree, children_agree}
-use Rattle.diag_writing.specs.Checks.{no_prefixes, entry_fits, passed_prefix, list_fits_in}
-use Rattle.writing_plans.specs.Used.{children_used}
+use Rattle.diag_writing.specs.Checks.{entry_fits, passed_prefix, list_fits_in}
+use Rattle.writing_plans.specs.Used.{children_used, no_prefixes}
 use Rattle.writing_plans.specs.Tests.{inside_by, route_by, tables_by, whole_by, children_by, eight_by}
 use Rattle.writing_walks.specs.declared.Prefixes.{Prefixes}
 use Rattle.writing_walks.specs.declared.Used.{Used}

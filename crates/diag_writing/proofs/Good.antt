@@ -22,8 +22,8 @@ use Rattle.value_writing.specs.Fits.{connectivity_fits, route64_fits, child_fits
 use Rattle.record_writing.specs.Fits.{passes, eight_bytes, values_fit}
 use Rattle.record_writing.specs.Lent.{Lent, part_bytes, route_used, opt_counts, network_of, children_of, list_of, values_of}
 use Rattle.record_writing.specs.Written.{short_part, short_list, parts_short, lists_of, lengths_fit, counts_fit, inside, parts_inside, list_inside, enough, routes_counted, tables_agree, children_agree, agrees}
-use Rattle.diag_writing.specs.Checks.{no_prefixes, no_lists, passed_prefix, list_fits_in, passed_list}
-use Rattle.writing_plans.specs.Used.{least, counts_in, children_used, used_of}
+use Rattle.diag_writing.specs.Checks.{passed_prefix, list_fits_in, passed_list}
+use Rattle.writing_plans.specs.Used.{least, counts_in, children_used, no_prefixes, no_lists, used_of}
 use Rattle.writing_plans.specs.Tests.{lengths_by, inside_by, parts_inside_by, route_by, tables_by, whole_by, children_by, eight_by, lists_by, bytes_by, links_by, fits_by}
 use Rattle.diag_writing.specs.Plans.{Scanned}
 use Rattle.writing_walks.specs.declared.Prefixes.{Prefixes}

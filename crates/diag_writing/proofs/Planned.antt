@@ -36,8 +36,8 @@ use Rattle.record_writing.specs.Fits.{passes, values_fit}
 use Rattle.record_writing.specs.Lent.{Lent, opt_counts, network_of, values_of}
 use Rattle.record_writing.specs.Written.{short_part, short_list, parts_short, lists_of, lengths_fit, counts_fit, list_inside, routes_counted, agrees, written}
 use Rattle.diag_writing.specs.Pieces.{Lies, ListLies, Counted, Short}
-use Rattle.diag_writing.specs.Checks.{no_prefixes, entry_fits, passed_prefix}
-use Rattle.writing_plans.specs.Used.{counts_in, children_used}
+use Rattle.diag_writing.specs.Checks.{entry_fits, passed_prefix}
+use Rattle.writing_plans.specs.Used.{counts_in, children_used, no_prefixes}
 use Rattle.writing_plans.specs.Tests.{lengths_by, inside_by, tables_by, children_by, eight_by, fits_by}
 use Rattle.writing_plans.specs.Sizes.{network_size, fixed_size, fixed_count, total_size}
 use Rattle.writing_plans.specs.Plans.{Planning, plan_paper, stopped, sized_by, plan_by}

@@ -17,8 +17,8 @@ use Rattle.diag_rows.specs.declared.ChildIpv6AddrInfo.{ChildIpv6AddrInfo}
 use Rattle.record_writing.specs.Lent.{lent}
 use Rattle.network_writing.specs.Fits.{route_fits, border_fits}
 use Rattle.value_writing.specs.Fits.{child_fits}
-use Rattle.diag_writing.specs.Checks.{no_prefixes, no_lists, passed_prefix, passed_list}
-use Rattle.writing_plans.specs.Used.{used_of}
+use Rattle.diag_writing.specs.Checks.{passed_prefix, passed_list}
+use Rattle.writing_plans.specs.Used.{no_prefixes, no_lists, used_of}
 use Rattle.diag_writing.specs.Plans.{Planned, Judged}
 use Rattle.writing_walks.specs.declared.Prefixes.{Prefixes}
 use Rattle.writing_walks.specs.declared.Lists.{Lists}

@@ -18,13 +18,6 @@ use Rattle.writing_walks.specs.declared.Lists.{Lists}
 unfoldable pub grown : (sum n : ℕ) → ℕ
 grown s n = pick (leb s most_bytes) (s + n) s
 
--- before the first prefix, and before the first list of so many lent bytes
-abbrev pub no_prefixes : Prefixes
-no_prefixes = record { routes = 0; borders = 0; size = 0; fits = true }
-
-abbrev pub no_lists : ℕ → Lists
-no_lists n = record { bytes = n; short = true; fits = true; size = 0 }
-
 abbrev pub unfit : Prefixes
 unfit = record { routes = 0; borders = 0; size = 0; fits = false }
 

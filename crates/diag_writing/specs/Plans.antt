@@ -21,12 +21,12 @@ use Rattle.record_writing.specs.Values.{entries_of}
 use Rattle.record_writing.specs.Lent.{Lent, opt_counts, values_of}
 use Rattle.record_writing.specs.Written.{written}
 use Rattle.diag_writing.specs.Pieces.{Placeable, Counted, ListLies}
-use Rattle.diag_writing.specs.Checks.{no_prefixes, no_lists, passed_prefix, passed_list}
+use Rattle.diag_writing.specs.Checks.{passed_prefix, passed_list}
 use Rattle.writing_walks.specs.declared.Prefixes.{Prefixes}
 use Rattle.writing_walks.specs.declared.Lists.{Lists}
 use Rattle.writing_walks.specs.declared.Used.{Used}
 use Rattle.writing_walks.specs.declared.Plan.{Plan}
-use Rattle.writing_plans.specs.Used.{counts_in, used_of}
+use Rattle.writing_plans.specs.Used.{counts_in, no_prefixes, no_lists, used_of}
 
 -- what was found in one pass over each table
 pub record Scanned (r : NetDiagData) (l : Lent) (t : Route64) (x : Used) (f : Prefixes) (h b c : Bool) (ls : Lists) : Type 0 where

@@ -6,7 +6,8 @@ ghost use Rattle.tables.specs.Fold.{fold};
 ghost use Rattle.network_writing.specs.Fits.{context_fits, route_fits, border_fits};
 ghost use Rattle.network_writing.specs.Tables.{context_of};
 ghost use Rattle.value_writing.specs.Fits.{child_fits};
-ghost use Rattle.diag_writing.specs.Checks.{no_prefixes, no_lists, grown, entry_fits, passed_prefix, list_fits_in, passed_list};
+ghost use Rattle.diag_writing.specs.Checks.{grown, entry_fits, passed_prefix, list_fits_in, passed_list};
+ghost use Rattle.writing_plans.specs.Used.{no_prefixes, no_lists};
 
 use crate::prefixes::value_size;
 use crate::values::child_fits;

@@ -24,7 +24,7 @@ use sizes::{fixed_count, total_size};
 use used::{children_used, counts_in};
 use writing_walks::{Lists, Plan, Prefixes, Used};
 
-// How many rows of each table a record uses, of as many as are lent; `room` is the length of the output.
+// How many rows of each table a record uses, of as many as are lent, and with what each table's pass begins; `room` is the length of the output.
 #[tactic(auto, unfolding(crate::specs::Used::used_of, crate::specs::Used::least))]
 pub fn count_used(
     r: NetDiagData,
@@ -52,6 +52,19 @@ pub fn count_used(
         borders: c.border_routers.min(borders),
         children: children_used(r.child_table, children),
         lists: r.child_ipv6_addresses.min(lists),
+        no_prefixes: Prefixes {
+            routes: 0,
+            borders: 0,
+            size: 0,
+            fits: true,
+        },
+        no_lists: Lists {
+            bytes,
+            short: true,
+            fits: true,
+            size: 0,
+        },
+        fits: true,
     }
 }
 

@@ -29,7 +29,7 @@ pub struct Lists {
     pub size: usize,
 }
 
-// What is lent, in bytes and rows; how many rows of each table the record uses.
+// What is lent, in bytes and rows; how many rows of each table the record uses; and with what each table's pass begins.
 #[derive(Clone, Copy)]
 pub struct Used {
     pub bytes: usize,
@@ -44,6 +44,9 @@ pub struct Used {
     pub borders: usize,
     pub children: usize,
     pub lists: usize,
+    pub no_prefixes: Prefixes,
+    pub no_lists: Lists,
+    pub fits: bool,
 }
 
 // The answer; whether there is something to write; how many rows of each table then, and how many bytes Network Data has.

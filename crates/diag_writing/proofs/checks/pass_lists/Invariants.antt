@@ -1,7 +1,8 @@
 -- `diag_writing::checks::pass_lists` meets its contract. The invariant: f is what the rows so far make of it.
 use Rattle.std.proofs.Common.{◌≡◌, take}
 use Rattle.tables.specs.Fold.{fold}
-use Rattle.diag_writing.specs.Checks.{no_lists, passed_list}
+use Rattle.diag_writing.specs.Checks.{passed_list}
+use Rattle.writing_plans.specs.Used.{no_lists}
 use Rattle.diag_writing.proofs.checks.pass_lists.Given as goal
 
 abbrev pub invariant-loop-x : goal.invariant-loop-x
