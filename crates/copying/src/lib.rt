@@ -8,7 +8,8 @@ ghost use Rattle.refusal.specs.Output.{placing, placed};
 pub fn put_bytes(bytes: &[u8], out: &mut [u8], at: usize) -> usize
     ensures { placing result out.new ≡ placed bytes.now at out.old }
 {
-    if at > out.len() || bytes.len() > out.len() - at {
+    // no bytes are no copy: an empty value, of which a dataset may have many, would pay for one
+    if bytes.is_empty() || at > out.len() || bytes.len() > out.len() - at {
         return at;
     }
     let next = at + bytes.len();

@@ -13,6 +13,7 @@ pub fn put_byte(b: u8, out: &mut [u8], at: usize) -> usize
 {
     if at < out.len() {
         out[at] = b;
+        return at + 1; // a place of an output is never the last that is counted
     }
     at.saturating_add(1)
 }

@@ -1,19 +1,31 @@
 -- `copying::put_bytes` meets its contract: the two tests say whether the bytes have room.
-use mathlib.Core.Path.{sym, ap, ◌∙◌}
-use Prim.Native.Nat.{◌+◌, ◌-◌}
+use mathlib.Core.Path.{◌≡◌, sym, ap, ◌∙◌}
+use mathlib.Core.List.{List, [], ◌∷◌}
+use Prim.Native.Nat.{ℕ, ◌+◌, ◌-◌}
 use native.Mathlib.Omega.{arith}
+use native.Mathlib.Nat.{add-zero}
+use lib.Dec.{leb}
+use borrow.Author.Tests.{eqb-true}
 use lib.ListN.{length}
-use Rattle.refusal.specs.Output.{placing}
+use Rattle.refusal.specs.Output.{placing, placed, put}
+use Rattle.laws.proofs.Tests.{by_test}
 use Rattle.laws.proofs.Emits.{placed_fits, placed_not}
 use Rattle.laws.proofs.Puts.{put_part}
 use Rattle.copying.proofs.put_bytes.Goals as goal
-use Rattle.copying.proofs.put_bytes.Goals.{then-at-out-via-then-at-out, then-at-out-via-else-at-out+then-bytes-out}
+use Rattle.copying.proofs.put_bytes.Goals.{then-is_empty-via-then-is_empty, then-is_empty-via-else-is_empty+then-at-out, then-is_empty-via-else-is_empty+else-at-out+then-bytes-out}
 
-pub returns-then-at-out : goal.returns-then-at-out
-returns-then-at-out c =
-    elim c.then-at-out.branch [
-      | then-at-out-via-then-at-out w ↦ sym (placed_not _ _ _ (omega arith))
-      | then-at-out-via-else-at-out+then-bytes-out w ↦ sym (placed_not _ _ _ (omega arith))
+-- no bytes leave all as it is, whether or not there is such a place
+none : (out bs : List ℕ) (at : ℕ) → length bs ≡ 0 → placed bs at out ≡ placing at out
+unfolding placed put
+none out [] at h = rw add-zero (by_test (leb at (length out)) (λ t. simp t) (λ t. simp t))
+none out (b ∷ bs) at h = absurd (omega (arith, h))
+
+pub returns-then-is_empty : goal.returns-then-is_empty
+returns-then-is_empty c =
+    elim c.then-is_empty.branch [
+      | then-is_empty-via-then-is_empty w ↦ sym (none _ _ _ (eqb-true _ _ (sym c.is_empty.ensures ∙ w.if-is_empty.true)))
+      | then-is_empty-via-else-is_empty+then-at-out w ↦ sym (placed_not _ _ _ (omega arith))
+      | then-is_empty-via-else-is_empty+else-at-out+then-bytes-out w ↦ sym (placed_not _ _ _ (omega arith))
     ]
 
 pub returns : goal.returns
