@@ -10,10 +10,15 @@ use lib.Dec.{eqb}
 use lib.ListN.{length, get_or, set, replicate, take, drop, length-set, get_or-replicate}
 use lib.Seq.{get_or-set_same, get_or-set_other}
 use borrow.Author.Tests.{eqb-true, eqb-false, eq-eqb, ne_eqb}
-use Rattle.refusal.specs.Answer.{pick, Answer, given, absent}
+use Rattle.std.specs.Prelude.{Result, Ok, Err}
+use Rattle.refusal.specs.Answer.{pick, Answer, given, absent, refused}
+use Rattle.refusal.specs.Results.{answer_of}
+use Rattle.refusal.specs.Number.{refusal_answer}
+use Rattle.refusal.specs.declared.Refusal.{Refusal}
 use Rattle.laws.proofs.Tests.{by_test}
 use Rattle.laws.proofs.Parts.{length_part}
 use Rattle.tlv.specs.Entries.{Entry, entry, clean, cut_at, Framing, done, onto, framing}
+use Rattle.tlv.specs.Limits.{count}
 use Rattle.tlv.specs.Place.{frame_at}
 use Rattle.tlv.specs.Walk.{entries_from}
 use Rattle.tlv.specs.declared.Frame.{Frame}
@@ -22,7 +27,7 @@ use Rattle.tlv.proofs.Walks.{from, Inside, inside, turn_end, turn_cut, turn_entr
 use Rattle.tlv.proofs.Left.{left_is, left_entry}
 use Rattle.tlv_last.specs.Last.{last_of}
 use Rattle.dataset_index.specs.Index.{how_many, place_or0, last_place}
-use Rattle.dataset_index.specs.Loops.{Indexed}
+use Rattle.dataset_index.specs.Loops.{Indexed, Collects}
 use Rattle.dataset_index.specs.declared.Table.{Table}
 
 -- the place of the last of es that has the type, or p where none has: the walk's own words for `last_place`
@@ -174,3 +179,8 @@ find_end x s n es h f = record {
       omega (arith, f.many t k);
   begins = λ t k. sym (place_none t (get_or x.place t 0)) ∙ ap (later_place t (get_or x.place t 0)) (sym h) ∙ f.last t k;
 }
+
+-- a refusal of the walk is the count's own
+pub refuses : (s : List ℕ) (r : Result Table Refusal) (n p k : ℕ) → answer_of r ≡ refused n p k → refused n p k ≡ count 0 s → Collects s r
+refuses s (Ok x) n p k a e = absurd (let z : ◌≡◌ {A = ℕ} 0 1 = cc in omega arith)
+refuses s (Err r) n p k a e = let same : refusal_answer {A = ℕ} r ≡ refused n p k = cc in same ∙ e

@@ -8,10 +8,9 @@ ghost use Rattle.refusal.specs.Output.{output, emit, put};
 ghost use Rattle.refusal.specs.Results.{answer_of, found_of};
 ghost use Rattle.wire_bytes.specs.Bytes.{bytes_of};
 ghost use Rattle.tlv.specs.Entries.{first};
-ghost use Rattle.tlv.specs.Limits.{count};
 ghost use Rattle.dataset_index.specs.Index.{index_size, built, loaded};
 ghost use Rattle.dataset_index.specs.Query.{two_at, is_framed, spot_in, by_index, value_by_index};
-ghost use Rattle.dataset_index.specs.Loops.{Indexed, slots_in};
+ghost use Rattle.dataset_index.specs.Loops.{Collects, slots_in};
 
 use refusal::{Fault, Refusal};
 use tlv::Frame;
@@ -34,13 +33,6 @@ struct Table {
     place: [u16; 256],
 }
 
-// What one pass over the entries gives: the table, and how many they are, or 2 or 3.
-#[derive(Clone, Copy)]
-struct Collected {
-    table: Table,
-    counted: Result<usize, Refusal>,
-}
-
 fn no_entries() -> Table
     ensures { (result.count ≡ replicate 256 0) × (result.place ≡ replicate 256 0) }
 {
@@ -50,10 +42,10 @@ fn no_entries() -> Table
     }
 }
 
-// One pass over the entries: each is noted and counted, and where they stop short of the end of s, the next one is cut.
-fn collect(s: &[u8]) -> Collected
+// One pass over the entries: each is noted and counted, and where they stop short of the end of s, the next one is cut. Refusals: 2, 3.
+fn collect(s: &[u8]) -> Result<Table, Refusal>
     requires { length s.now ≤ most_bytes }
-    ensures { Indexed result.table s.now × (answer_of result.counted ≡ count 0 s.now) }
+    ensures { Collects s.now result }
 {
     let mut table = no_entries();
     let mut n: usize = 0;
@@ -70,15 +62,10 @@ fn collect(s: &[u8]) -> Collected
         end = entry.start + entry.value.len();
     }
     if end < s.len() {
-        return Collected {
-            table,
-            counted: tlv::stopped(Some(Fault::Cut), end, n, over, 0),
-        };
+        return refusal::refuse(Fault::Cut, end);
     }
-    Collected {
-        table,
-        counted: tlv::stopped(None, end, n, over, 0),
-    }
+    tlv::stopped(None, end, n, over, 0)?;
+    Ok(table)
 }
 
 // A number of two bytes into out from at on; the place after it.
@@ -107,8 +94,7 @@ pub fn build(dataset: &[u8], out: &mut [u8]) -> Result<usize, Refusal>
     if dataset.len() > refusal::MAX_BYTES {
         return refusal::refuse(Fault::TooLarge, 0);
     }
-    let Collected { table, counted } = collect(dataset);
-    counted?;
+    let table = collect(dataset)?;
     if out.len() < INDEX_BYTES {
         return refusal::refuse(Fault::NoRoom, 0);
     }

@@ -6,11 +6,13 @@ use Prim.Native.Nat.{◌≤◌}
 use native.Mathlib.Omega.{arith}
 use lib.ListN.{length}
 use Rattle.refusal.specs.Sizes.{most_bytes}
+use Rattle.refusal.specs.Answer.{given}
+use Rattle.refusal.proofs.Papers.{passes}
 use Rattle.tlv.specs.Limits.{count, framed}
 use Rattle.tlv.specs.Walk.{left}
 use Rattle.tlv.proofs.Left.{left_start}
-use Rattle.tlv.proofs.Tally.{tally, tally_start, tally_at, tally_off, tally_end, tally_cut}
-use Rattle.dataset_index.proofs.Tables.{next, ends, find_start, find_more, find_end}
+use Rattle.tlv.proofs.Tally.{tally, tally_start, tally_at, tally_off, tally_end, tally_cut, counted_number}
+use Rattle.dataset_index.proofs.Tables.{next, ends, find_start, find_more, find_end, refuses}
 use Rattle.dataset_index.proofs.collect.Goals as goal
 use Rattle.dataset_index.proofs.collect.Goals.{then-n-eq-MAX_ENTRIES, else-n-eq-MAX_ENTRIES}
 
@@ -58,10 +60,17 @@ pub returns-then-end-s : goal.returns-then-end-s
 returns-then-end-s c =
     let inv = c.loop-entry.invariant in
     let over = (ends _ _ (inv.0 ∙ c.in-None.ensures.steps.0)).0 c.if-end-s.true in
-    (find_end _ _ _ _ c.in-None.ensures.steps.0 inv.4, c.stopped.ensures ∙ (sym (tally_cut _ _ _ _) ∙ ap (tally _ _ _) (sym over) ∙ inv.3))
+    refuses _ _ _ _ _ c.refuse.ensures (sym (tally_cut _ _ _ _) ∙ ap (tally _ _ _) (sym over) ∙ inv.3)
+
+pub returns-in_err-stopped : goal.returns-in_err-stopped
+returns-in_err-stopped c =
+    let inv = c.loop-entry.invariant in
+    let over = (ends _ _ (inv.0 ∙ c.in-None.ensures.steps.0)).1 c.if-end-s.false in
+    rw (passes _ _ c.from_residual.ensures.1) (c.in_err-stopped.ensures ∙ (sym (tally_end _ _ _) ∙ ap (tally _ _ _) (sym over) ∙ inv.3))
 
 pub returns : goal.returns
 returns c =
     let inv = c.loop-entry.invariant in
     let over = (ends _ _ (inv.0 ∙ c.in-None.ensures.steps.0)).1 c.if-end-s.false in
-    (find_end _ _ _ _ c.in-None.ensures.steps.0 inv.4, c.stopped-2.ensures ∙ (sym (tally_end _ _ _) ∙ ap (tally _ _ _) (sym over) ∙ inv.3))
+    let told = c.in_ok-stopped.ensures ∙ (sym (tally_end _ _ _) ∙ ap (tally _ _ _) (sym over) ∙ inv.3) in
+    (find_end _ _ _ _ c.in-None.ensures.steps.0 inv.4, ap given (sym (counted_number _ _ _ told)) ∙ told)
