@@ -117,6 +117,10 @@ module _ (ty : ℕ) (best : Answer Spot) (e : Entry) (es : List Entry) where
   unfolding last_spot_of
   last_hit h = simp (eq-eqb _ _ h)
 
+  -- which is what is kept then
+  pub last_kept : (kept : Answer Spot) → e.ty ≡ ty → kept ≡ given (spot e) → last_spot_of ty kept es ≡ last_spot_of ty best (e ∷ es)
+  last_kept kept h is = ap (λ (b : Answer Spot). last_spot_of ty b es) is ∙ sym (last_hit h)
+
   pub last_miss : (e.ty ≡ ty → ⊥) → last_spot_of ty best (e ∷ es) ≡ last_spot_of ty best es
   unfolding last_spot_of
   last_miss h = simp (ne_eqb _ _ h)

@@ -1,10 +1,11 @@
 -- `tlv_last::last_entry` meets its contract.
 use mathlib.Core.Path.{sym, ap, ◌∙◌}
+use native.Mathlib.Omega.{arith}
 use Rattle.refusal.specs.Results.{found_of}
 use Rattle.refusal.proofs.Papers.{passes}
 use Rattle.tlv.specs.Walk.{left}
 use Rattle.tlv.proofs.Tally.{counted_framed, counted_refused}
-use Rattle.tlv_last.proofs.Lasts.{last_spot_of, spot_then, last_hit, last_miss, last_none}
+use Rattle.tlv_last.proofs.Lasts.{last_spot_of, spot_then, last_kept, last_miss, last_none}
 use Rattle.tlv_last.proofs.last_entry.Goals as goal
 
 pub returns-in_err-count_entries : goal.returns-in_err-count_entries
@@ -18,7 +19,7 @@ loop-entry-init c =
 
 pub loop-entry-preserved-then-entry-ty : goal.loop-entry-preserved-then-entry-ty
 loop-entry-preserved-then-entry-ty c =
-    sym (last_hit _ _ _ _ c.if-entry-ty.true) ∙ ap (last_spot_of _ _) (sym c.in-Some.ensures.steps) ∙ c.loop-entry.invariant
+    last_kept _ _ _ _ _ c.if-entry-ty.true (grind arith) ∙ ap (last_spot_of _ _) (sym c.in-Some.ensures.steps) ∙ c.loop-entry.invariant
 
 pub loop-entry-preserved : goal.loop-entry-preserved
 loop-entry-preserved c = sym (last_miss _ _ _ _ c.if-entry-ty.false) ∙ ap (last_spot_of _ _) (sym c.in-Some.ensures.steps) ∙ c.loop-entry.invariant
