@@ -4,7 +4,8 @@ use mathlib.Core.Path.{◌≡◌, refl, sym, ap, ◌∙◌}
 use mathlib.Core.List.{List, ◌++◌, map}
 use Prim.Native.Nat.{ℕ, ◌<◌, ◌≤◌}
 use native.Mathlib.Omega.{arith}
-use lib.ListN.{length, drop, length-map}
+use lib.ListN.{length, take, drop, length-map}
+use lib.Seq.{length-take-le}
 use lib.Dec.{leb, ltb}
 use Rattle.refusal.specs.Sizes.{most_bytes}
 use borrow.Author.Tests.{leb-true}
@@ -130,17 +131,17 @@ module _ (s : List ℕ) where
         pub ask_borders : (n : ℕ) → n ≡ c.border_routers → (i : ℕ) → i < n → RowHere 4 s (steps (next_row 2 4 s) i (first_row 2 4 s))
         ask_borders n e i l = border_here s i (omega (arith, borders_are))
 
-        module _ (n m k : ℕ) (n_is : n ≡ c.prefixes) (m_is : m ≡ c.has_routes) (k_is : k ≡ c.border_routers)
-            (P' : List PrefixEntry) (P-is : P' ≡ tab (λ i. entry_at s (steps (span_end s) i 0)) n)
-            (H' : List HasRouteEntry) (H-is : H' ≡ tab (λ i. route_of s (steps (next_row 0 3 s) i (first_row 0 3 s))) m)
-            (B' : List BorderRouterEntry) (B-is : B' ≡ tab (λ i. border_of s (steps (next_row 2 4 s) i (first_row 2 4 s))) k) where
+        module _
+            (P' : List PrefixEntry) (P-is : P' ≡ tab (λ i. entry_at s (steps (span_end s) i 0)) (length (take c.prefixes P)))
+            (H' : List HasRouteEntry) (H-is : H' ≡ tab (λ i. route_of s (steps (next_row 0 3 s) i (first_row 0 3 s))) (length (take c.has_routes H)))
+            (B' : List BorderRouterEntry) (B-is : B' ≡ tab (λ i. border_of s (steps (next_row 2 4 s) i (first_row 2 4 s))) (length (take c.border_routers B))) where
           stored : outcome (given c) (P' ++ drop c.prefixes P) (H' ++ drop c.has_routes H) (B' ++ drop c.border_routers B) ≡ written ps (given c) P H B
           unfolding written
           stored =
               same_outcome
-              (into _ _ P (map entry_of ps) P-is n_is (simp length-map prefixes_are) (simp length-map (prefix_rows s fits.heads)))
-              (into _ _ H (all_routes ps) H-is m_is routes_are (route_rows s))
-              (into _ _ B (all_borders ps) B-is k_is borders_are (border_rows s))
+              (into _ _ P (map entry_of ps) P-is (length-take-le _ _ fits.room.prefixes) (simp length-map prefixes_are) (simp length-map (prefix_rows s fits.heads)))
+              (into _ _ H (all_routes ps) H-is (length-take-le _ _ fits.room.routes) routes_are (route_rows s))
+              (into _ _ B (all_borders ps) B-is (length-take-le _ _ fits.room.borders) borders_are (border_rows s))
 
           said_so : written ps (given c) P H B ≡ decoded (given ps) P H B
           unfolding decoded answered

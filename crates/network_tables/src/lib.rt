@@ -55,6 +55,7 @@ pub fn prefix_at(value: &[u8], i: usize) -> Result<Option<PrefixEntry>, Refusal>
 
 // How many records a bare value has; they go into the tables, in prefix order, and records past the counts stay. Refusals: as `check` at place
 // 0, then 11; all records stay.
+#[tactic(auto, using(crate::proofs::Plans::refuses, crate::proofs::Plans::finish))]
 pub fn decode(
     value: &[u8],
     prefixes: &mut [PrefixEntry],

@@ -5,7 +5,7 @@ use lib.Seq.{length-take-le}
 use Rattle.refusal.specs.Results.{answer_of}
 use Rattle.refusal.proofs.Papers.{passes}
 use Rattle.network_plans.specs.Tables.{outcome}
-use Rattle.network_tables.proofs.Plans.{fits, ask_prefixes, ask_routes, ask_borders, finish, refuses}
+use Rattle.network_tables.proofs.Plans.{fits, ask_prefixes, ask_routes, ask_borders, refuses}
 use Rattle.network_tables.proofs.decode.Goals as goal
 
 pub returns-in_err-c : goal.returns-in_err-c
@@ -46,11 +46,3 @@ pub fill-requires-3 : goal.fill-requires-3
 fill-requires-3 c =
     let a = c.args in
     ask_borders a.value.now a.prefixes.now a.has_route.now a.border_routers.now _ c.in_ok-c.ensures _ (length-take-le _ _ (fits _ _ _ _ _ c.in_ok-c.ensures).room.borders)
-
-pub returns : goal.returns
-returns c =
-    let a = c.args in
-    let room = (fits _ _ _ _ _ c.in_ok-c.ensures).room in
-    finish a.value.now a.prefixes.now a.has_route.now a.border_routers.now _ c.in_ok-c.ensures _ _ _
-    (length-take-le _ _ room.prefixes) (length-take-le _ _ room.routes) (length-take-le _ _ room.borders)
-    _ c.fill.ensures _ c.fill-2.ensures _ c.fill-3.ensures
