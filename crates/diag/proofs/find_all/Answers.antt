@@ -1,13 +1,12 @@
 -- `diag::find_all` meets its contract.
-use mathlib.Core.Path.{ap, ◌∙◌}
 use native.Mathlib.Omega.{arith}
-use Rattle.tlv.specs.Walk.{left}
+use Rattle.std.proofs.lemmas.List.{take_all}
 use Rattle.diag.proofs.Finds.{find_start, find_more, find_skip, find_list, find_other, find_end}
 use Rattle.diag.proofs.find_all.Goals as goal
 use Rattle.diag.proofs.find_all.Goals.{then-entry-lt32, else-entry-lt32}
 
 pub loop-entry-init : goal.loop-entry-init
-loop-entry-init c = find_start _ _ (ap left c.into_iter-entry-iterator.ensures.into_iter_gives ∙ c.entries-entry-items.ensures)
+loop-entry-init c = find_start _ _ (grind (arith, take_all))
 
 pub loop-entry-preserved-then-entry-eq-CHILD_IPV6_ADDRESSES : goal.loop-entry-preserved-then-entry-eq-CHILD_IPV6_ADDRESSES
 loop-entry-preserved-then-entry-eq-CHILD_IPV6_ADDRESSES c =
