@@ -42,6 +42,7 @@ pub struct MacCounters {
 }
 
 // The number that four bytes of a value spell.
+#[tactic(auto, using(crate::proofs::Numbers::four_spell))]
 fn u32_at(v: &[u8], at: usize) -> u32
     requires { at + 4 ≤ length v.now }
     ensures { result ≡ number_at 4 at v.now }
