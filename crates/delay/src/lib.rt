@@ -30,6 +30,7 @@ fn wide_constants() -> [u64; 1]
 }
 
 // The delay timer, or the default where there is none.
+#[tactic(auto, using(refusal::proofs::Papers::passes), unfolding(crate::specs::Delay::delay_or))]
 fn delay_or(dataset: &[u8], default: u32) -> Result<u32, Refusal>
     ensures { answer_of result ≡ delay_or default dataset.now }
 {
@@ -38,6 +39,7 @@ fn delay_or(dataset: &[u8], default: u32) -> Result<u32, Refusal>
 }
 
 // The second at which the dataset is due by the delay that has this default.
+#[tactic(auto, using(refusal::proofs::Papers::passes, crate::proofs::Cases::seconds_is), unfolding(crate::specs::Delay::due_or))]
 fn due_or(dataset: &[u8], default: u32, clock: u64) -> Result<u64, Refusal>
     ensures { answer_of result ≡ due_or default dataset.now clock }
 {
