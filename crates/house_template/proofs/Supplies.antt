@@ -4,17 +4,12 @@ use mathlib.Core.Path.{◌≡◌, refl, sym, subst}
 use mathlib.Core.List.{List, []}
 use Prim.Native.Nat.{ℕ, ◌+◌, ◌≤◌}
 use lib.ListN.{length, take, drop}
-use Rattle.std.specs.Prelude.{Option, Ok, Some, None, MatchOption, IsSomeAnd}
 use Rattle.refusal.specs.Answer.{Answer, given, absent, refused, on_given}
-use Rattle.refusal.specs.Results.{found_of}
 use Rattle.tlv.specs.Entries.{Entry}
 use Rattle.tlv_last.specs.Last.{spot, value_or, last_entry, last_spot}
 use Rattle.tlv_last.specs.declared.Spot.{Spot}
 use Rattle.tlv_last.proofs.Lasts.{LiesIn, entry_lies}
 use Rattle.house_template.specs.Template.{Supply, site, template, whichever, on_supply, site_first, supplied, supplied_spot, supplied_value}
-use Rattle.house_template.specs.Answers.{supplied_answer}
-use Rattle.house_template.specs.declared.Supplied.{Supplied}
-use Rattle.house_template.specs.declared.Supplied.TheVariants as s
 
 -- first the one, then where it lies, or the other way round
 first_of : {A B : Type 0} (f : A → B) (x y : Answer A) → site_first (on_given f x) (on_given f y) ≡ on_given (on_supply f) (site_first x y)
@@ -26,34 +21,10 @@ first_of f absent (refused n p i) = refl
 first_of f absent (given b) = refl
 first_of f absent absent = refl
 
-spots_first : (ty : ℕ) (d t : List ℕ) → site_first (last_spot ty 0 d) (last_spot ty 1 t) ≡ supplied_spot ty d t
+-- by what was found in the two, for the code
+pub spots_first : (ty : ℕ) (d t : List ℕ) → supplied_spot ty d t ≡ site_first (last_spot ty 0 d) (last_spot ty 1 t)
 unfolding supplied_spot supplied last_spot
-spots_first ty d t = first_of spot (last_entry ty 0 d) (last_entry ty 1 t)
-
--- by what was found in the two
-pub by_both : (ty : ℕ) (d t : List ℕ) (x y : Answer Spot) → x ≡ last_spot ty 0 d → y ≡ last_spot ty 1 t → site_first x y ≡ supplied_spot ty d t
-by_both ty d t x y e f = rw (e, f) (spots_first ty d t)
-
--- the site's refusal, whatever the template has
-pub site_stops : (ty : ℕ) (d t : List ℕ) (n p i : ℕ) → refused n p i ≡ last_spot ty 0 d → refused n p i ≡ supplied_spot ty d t
-site_stops ty d t n p i e = by_both ty d t (refused n p i) (last_spot ty 1 t) e refl
-
--- the template's, be there an entry of the site's or none
-pub template_stops : (x : Option Spot) (n p i : ℕ) → refused n p i ≡ site_first (found_of (Ok x)) (refused n p i)
-template_stops (Some a) n p i = refl
-template_stops None n p i = refl
-
--- the arm in which the template is not refused
-pub site_stays : (a : Spot) (y : Option Spot) → given (site a) ≡ site_first (given a) (found_of (Ok y))
-site_stays a (Some b) = refl
-site_stays a None = refl
-
--- the arm in which the template alone has it, which `Option::map` names as the template's
-pub template_alone : (y : Option Spot) (r : Option Supplied) → MatchOption y (r ≡ None) (λ (a : Spot). IsSomeAnd r (λ (x : Supplied). x ≡ s.Template a))
-    → supplied_answer (Ok r) ≡ site_first absent (found_of (Ok y))
-template_alone (Some a) (Some x) h = rw h
-template_alone (Some a) None h = absurd h
-template_alone None r h = rw h
+spots_first ty d t = sym (first_of spot (last_entry ty 0 d) (last_entry ty 1 t))
 
 -- ---- the part that a spot names, of the one that supplies it
 module _ (d t : List ℕ) where

@@ -19,6 +19,7 @@ pub enum Supplied {
 }
 
 // Where the value of a type lies, and in which of the two. Refusals: 1, 2, 3 of the dataset, then of the template, even where the dataset has the type.
+#[tactic(auto, using(refusal::proofs::Papers::passes, crate::proofs::Supplies::spots_first))]
 pub fn supplied_entry(dataset: &[u8], template: &[u8], ty: u8) -> Result<Option<Supplied>, Refusal>
     ensures { supplied_answer result ≡ supplied_spot ty dataset.now template.now }
 {
