@@ -70,6 +70,7 @@ pub fn list(s: &[u8], out: &mut [u8]) -> Result<usize, Refusal>
 }
 
 // The listing of a dataset or payload in hex text, at the start of out. Refusals: 1, 7, 8, 2, 3, 11.
+#[tactic(auto, using(refusal::proofs::Papers::passes, crate::proofs::Hexes::decoded_within, crate::proofs::Hexes::front, crate::proofs::Hexes::length_both), unfolding(refusal::specs::Output::emit, crate::specs::Listing::hex_by))]
 pub fn list_hex(text: &[u8], out: &mut [u8]) -> Result<usize, Refusal>
     ensures { output (answer_of result) out.new ≡ emit (listed_hex text.now) out.old }
 {
