@@ -11,7 +11,9 @@ use lib.Seq.{take_all, length-take-le}
 use lib.Dec.{leb, eqb}
 use borrow.Author.Tests.{leb-true, ne_eqb}
 use Rattle.refusal.specs.Answer.{pick, Answer, given, absent, refused}
+use Rattle.refusal.specs.Output.{output, emit}
 use Rattle.laws.proofs.Tests.{by_test, pick_all}
+use Rattle.laws.proofs.Emits.{emit_refused}
 use Rattle.laws.proofs.Parts.{length_part}
 use Rattle.tlv.specs.Entries.{Entry, Framing}
 use Rattle.tlv.specs.Limits.{count}
@@ -227,3 +229,7 @@ module _ (s : List ℕ) where
   pub nested_refused : (n p i : ℕ) → refused n p i ≡ count 0 s → refused n p i ≡ nested s
   unfolding nested
   nested_refused n p i e = answers_refused 0 (λ (es : List Entry). lines 0 (payload es)) s n p i e
+
+  -- nothing is written
+  pub nested_stops : (out : List ℕ) (n p i : ℕ) → refused n p i ≡ count 0 s → output (refused n p i) out ≡ emit (nested s) out
+  nested_stops out n p i e = emit_refused (nested s) out n p i (nested_refused n p i e)

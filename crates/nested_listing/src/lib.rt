@@ -148,6 +148,7 @@ fn put_item(nesting: usize, ty: u8, value: &[u8], out: &mut [u8], at: usize) -> 
 }
 
 // The nested listing of a payload, at the start of out. Refusals: 1, 2, 3, 11.
+#[tactic(auto, using(crate::proofs::Turns::nested_stops))]
 pub fn list_nested(s: &[u8], out: &mut [u8]) -> Result<usize, Refusal>
     ensures { output (answer_of result) out.new ≡ emit (nested s.now) out.old }
 {
@@ -162,6 +163,7 @@ pub fn list_nested(s: &[u8], out: &mut [u8]) -> Result<usize, Refusal>
 }
 
 // The nested listing of a payload in hex text, at the start of out. Refusals: 1, 7, 8, 2, 3, 11.
+#[tactic(auto, using(refusal::proofs::Papers::passes, listing::proofs::Hexes::decoded_within, listing::proofs::Hexes::front, listing::proofs::Hexes::length_both), unfolding(refusal::specs::Output::emit, listing::specs::Listing::hex_by))]
 pub fn list_nested_hex(text: &[u8], out: &mut [u8]) -> Result<usize, Refusal>
     ensures { output (answer_of result) out.new ≡ emit (nested_hex text.now) out.old }
 {
