@@ -81,19 +81,6 @@ module _ (s : List ℕ) where
 
   -- ---- the channel mask
 
-  -- what `channel_mask` learns: of the entry that was found, and of `count_mask_items`
-  module _ (p a n : ℕ) (told : given (spot_at p a n) ≡ last_spot 53 0 s) where
-    pub mask_counted : (k : ℕ) → given k ≡ on_given length (items p (take n (drop a s))) → given (mask_at p a n k) ≡ mask_spot s
-    unfolding mask_spot
-    mask_counted k says =
-        let x = gives length (items p (take n (drop a s))) k (sym says) in
-        let size : length (take n (drop a s)) ≡ n = length_part s a n (found_inside 53 s p a n told) in
-        rw ((found 53 s p a n told).is, x.is, size, x.so)
-
-    pub mask_refused : (m q j : ℕ) → refused m q j ≡ on_given length (items p (take n (drop a s))) → refused m q j ≡ mask_spot s
-    unfolding mask_spot
-    mask_refused m q j says = rw ((found 53 s p a n told).is, on_refused length _ m q j says)
-
   pub no_mask : absent ≡ last_spot 53 0 s → absent ≡ mask_spot s
   unfolding mask_spot
   no_mask told = rw (none_found 53 s told)
@@ -101,6 +88,21 @@ module _ (s : List ℕ) where
   pub no_mask_of : (m q j : ℕ) → refused m q j ≡ last_spot 53 0 s → refused m q j ≡ mask_spot s
   unfolding mask_spot
   no_mask_of m q j told = rw (refused_found 53 s m q j told)
+
+  -- what `channel_mask` learns: by where the entry lies, and by its items
+  abbrev mask_in : Spot → Answer MaskSpot
+  mask_in p = on_given (λ (is : List Masked). mask_at p.place p.start p.len (length is)) (items p.place (take p.len (drop p.start s)))
+
+  mask_by : (x : Answer Spot) → x ≡ last_spot 53 0 s → mask_spot s ≡ then_do x mask_in
+  unfolding mask_spot
+  mask_by (given p) e =
+      let size : length (take p.len (drop p.start s)) ≡ p.len = length_part s p.start p.len (found_inside 53 s p.place p.start p.len e) in
+      rw ((found 53 s p.place p.start p.len e).is, size)
+  mask_by absent e = sym (no_mask e)
+  mask_by (refused m q j) e = sym (no_mask_of m q j e)
+
+  pub mask_by_spot : mask_spot s ≡ then_do (last_spot 53 0 s) mask_in
+  mask_by_spot = mask_by (last_spot 53 0 s) refl
 
   -- what the caller of `channel_mask` learns
   abbrev spot_of : MaskSpot → Spot

@@ -56,6 +56,7 @@ pub fn network_name_value<'a>(s: &'a [u8]) -> &'a [u8]
 }
 
 // Where the channel mask lies, and how many items it has. Refusals: 1, 2, 3, then 5 at its entry.
+#[tactic(auto, using(refusal::proofs::Papers::passes, crate::proofs::Keeps::mask_by_spot))]
 pub fn channel_mask(s: &[u8]) -> Result<Option<MaskSpot>, Refusal>
     ensures { found_of result ≡ mask_spot s.now }
 {

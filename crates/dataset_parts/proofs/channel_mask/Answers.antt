@@ -1,11 +1,10 @@
--- `dataset_parts::channel_mask` meets its contract, by what `last_entry` and then `count_mask_items` answered.
+-- `dataset_parts::channel_mask` meets its contract, by what `last_entry` answered. What `count_mask_items` then answered is for the search (`mask_by_spot`).
 use mathlib.Core.Path.{ap, ◌∙◌}
 use native.Mathlib.Omega.{arith}
-use native.Mathlib.Nat.{add-sub_cancel_left}
 use Rattle.refusal.specs.Results.{found_of}
 use Rattle.refusal.proofs.Papers.{passes}
 use Rattle.dataset.proofs.Finds.{found_inside}
-use Rattle.dataset_parts.proofs.Keeps.{mask_counted, mask_refused, no_mask, no_mask_of}
+use Rattle.dataset_parts.proofs.Keeps.{no_mask, no_mask_of}
 use Rattle.dataset_parts.proofs.channel_mask.Goals as goal
 
 pub returns-in_err-place : goal.returns-in_err-place
@@ -16,15 +15,6 @@ overflow_add-start c = omega (arith, found_inside _ _ _ _ _ (rw c.in-Some.is at 
 
 pub slice_bounds-count_mask_items-end : goal.slice_bounds-count_mask_items-end
 slice_bounds-count_mask_items-end c = omega (arith, found_inside _ _ _ _ _ (rw c.in-Some.is at c.in_ok-place.ensures))
-
-pub returns-in_err-items-in-Some : goal.returns-in_err-items-in-Some
-returns-in_err-items-in-Some c =
-    ap found_of (passes _ _ c.from_residual-in_err-items-in-Some.ensures.1)
-    ∙ mask_refused _ _ _ _ (rw c.in-Some.is at c.in_ok-place.ensures) _ _ _ (simp add-sub_cancel_left at c.in_err-items-in-Some.ensures)
-
-pub returns-in_ok-items-in-Some : goal.returns-in_ok-items-in-Some
-returns-in_ok-items-in-Some c =
-    mask_counted _ _ _ _ (rw c.in-Some.is at c.in_ok-place.ensures) _ (simp add-sub_cancel_left at c.in_ok-items-in-Some.ensures)
 
 pub returns-in-None : goal.returns-in-None
 returns-in-None c = no_mask _ (rw c.in-None.is at c.in_ok-place.ensures)
