@@ -11,7 +11,7 @@ use Rattle.std.specs.Prelude.{Result, Ok, Err, Option, Some, None}
 use mir.Syntax.{w16}
 use Rattle.std.specs.Int.{from_be_bytes}
 use Rattle.refusal.specs.Sizes.{most_bytes}
-use Rattle.refusal.specs.Answer.{given, absent, refused, then_do, on_given}
+use Rattle.refusal.specs.Answer.{Answer, given, absent, refused, then_do, on_given}
 use Rattle.refusal.specs.declared.Refusal.{Refusal}
 use Rattle.refusal.specs.Results.{found_of, answer_of}
 use Rattle.laws.proofs.Answers.{gives, then_gives, on_on, on_then}
@@ -19,10 +19,11 @@ use Rattle.wire.specs.Be.{be, be_from, wrong_length, ruled}
 use Rattle.wire.proofs.Bes.{ruled_is, ruled_gives}
 use Rattle.tlv.specs.Entries.{Entry}
 use Rattle.tlv_last.specs.Last.{last_entry, spot_at, last_spot}
+use Rattle.tlv_last.specs.declared.Spot.{Spot}
 use Rattle.values.specs.Typed.{policy_of}
 use Rattle.values.specs.declared.SecurityPolicy.{SecurityPolicy}
 use Rattle.dataset.specs.Queries as q
-use Rattle.dataset.proofs.Finds.{found, none_found, refused_found}
+use Rattle.dataset.proofs.Finds.{found_inside, found, none_found, refused_found}
 use Rattle.policy_forms.specs.Forms.{Numbers, numbers, four_numbers, numbers_in, read, query}
 use Rattle.policy_forms.specs.declared.EitherPolicy.{EitherPolicy}
 use Rattle.policy_forms.specs.declared.EitherPolicy.TheVariants as p
@@ -135,3 +136,27 @@ module _ (k : ℕ) (s : List ℕ) where
   pub query_refused : (m q j : ℕ) → refused m q j ≡ last_spot 12 0 s → refused m q j ≡ query k s
   unfolding query
   query_refused m q j told = rw (refused_found 12 s m q j told)
+
+  -- by where it lies, for the code
+  query_by : (x : Answer Spot) → x ≡ last_spot 12 0 s → query k s ≡ then_do x (λ (p : Spot). read k p.place (take p.len (drop p.start s)))
+  query_by (given p) told = sym (query_at p.place p.start p.len told)
+  query_by absent told = sym (query_none told)
+  query_by (refused m q j) told = sym (query_refused m q j told)
+
+  pub query_by_spot : query k s ≡ then_do (last_spot 12 0 s) (λ (p : Spot). read k p.place (take p.len (drop p.start s)))
+  query_by_spot = query_by (last_spot 12 0 s) refl
+
+-- where it lies is within the input
+abbrev end_of : Answer Spot → ℕ
+end_of (given p) = p.start + p.len
+end_of absent = 0
+end_of (refused n p i) = 0
+
+within_by : (ty : ℕ) (s : List ℕ) (x : Answer Spot) → x ≡ last_spot ty 0 s → end_of x ≤ length s
+within_by ty s (given p) told = found_inside ty s p.place p.start p.len told
+within_by ty s absent told = omega arith
+within_by ty s (refused n p i) told = omega arith
+
+-- `grind` takes a lemma up at the first call that it states
+pub spot_within : (ty : ℕ) (s : List ℕ) → (last_spot ty 0 s ≡ last_spot ty 0 s) × (end_of (last_spot ty 0 s) ≤ length s)
+spot_within ty s = (refl, within_by ty s (last_spot ty 0 s) refl)

@@ -145,6 +145,7 @@ impl EitherPolicy {
 }
 
 // The policy of a dataset, in the named form. Refusals: 1, 2, 3, then 4 at the value's entry.
+#[tactic(auto, using(refusal::proofs::Papers::passes, crate::proofs::Modes::spot_within, crate::proofs::Modes::query_by_spot))]
 pub fn security_policy(s: &[u8], form: PolicyForm) -> Result<Option<EitherPolicy>, Refusal>
     ensures { on_given numbers_of (found_of result) ≡ query (size_in form) s.now }
 {
