@@ -1,16 +1,18 @@
 -- What a call learns of a writer into a scratch with room for all that it can give: the refusal is the writer's own, or the bytes are the
 -- start of the scratch. And the laws of the calls on hex text.
 -- Assumes nothing.
-use mathlib.Core.Path.{◌≡◌, sym, ap, ◌∙◌}
-use mathlib.Core.List.{List}
-use Prim.Native.Nat.{ℕ, ◌-◌, ◌≤◌}
+use mathlib.Core.Path.{◌≡◌, refl, sym, ap, ◌∙◌}
+use mathlib.Core.List.{List, ◌++◌}
+use Prim.Native.Nat.{ℕ, ◌+◌, ◌-◌, ◌≤◌, ◌<◌}
 use native.Mathlib.Omega.{arith}
 use native.Mathlib.Nat.{sub-zero}
-use lib.ListN.{length, take}
+use lib.ListN.{length, length-append, take, get_or}
+use lib.Seq.{take-append_seam}
 use Rattle.refusal.specs.Sizes.{most_bytes}
-use Rattle.refusal.specs.Answer.{Answer, given, refused}
+use Rattle.refusal.specs.Answer.{Answer, given, absent, refused}
 use Rattle.refusal.specs.Output.{output, emit}
 use Rattle.refusal.specs.Every.{Bytes}
+use Rattle.laws.proofs.Parts.{every_byte}
 use Rattle.laws.proofs.Callers.{Refuses, itself, no_room, gave_front, refuses}
 use Rattle.tlv_rewriting.specs.Rewrite.{rewritten}
 use Rattle.tlv_rewriting.specs.declared.Choice.TheVariants.{All}
@@ -39,10 +41,26 @@ module _ (s scratch left : List ℕ) where
   unfolding hex_of
   to_hex_given n e = rw (gave_part _ _ _ n e)
 
-  pub to_hex_refused : Bytes s → most_bytes ≤ length scratch → (n p i : ℕ) → output (refused n p i) left ≡ emit (rewritten All s) scratch
-      → refused n p i ≡ hex_of s
-  unfolding hex_of
-  to_hex_refused b room n p i e = rw (refused_itself _ _ _ (λ bs is. omega (arith, rewritten_fits All s bs b is)) n p i e)
+-- for the search: what is written afresh fits, and is the start of what is left
+abbrev length_of : Answer (List ℕ) → ℕ
+length_of (given bs) = length bs
+length_of absent = 0
+length_of (refused n p i) = 0
+
+within : (s : List ℕ) → Bytes s → (a : Answer (List ℕ)) → rewritten All s ≡ a → length_of a ≤ most_bytes
+within s b (given bs) e = rewritten_fits All s bs b e
+within s b absent e = omega arith
+within s b (refused n p i) e = omega arith
+
+-- `grind` takes a lemma up at the first call that it states
+pub rewritten_within : (s : List ℕ) → ((i : ℕ) → get_or s i 0 < 256) → (rewritten All s ≡ rewritten All s) × (length_of (rewritten All s) ≤ most_bytes)
+rewritten_within s small = (refl, within s (every_byte s small) (rewritten All s) refl)
+
+pub front : (xs ys : List ℕ) → take (length xs) (xs ++ ys) ≡ xs
+front xs ys = take-append_seam xs ys
+
+pub length_both : (xs ys : List ℕ) → length (xs ++ ys) ≡ length xs + length ys
+length_both xs ys = length-append xs ys
 
 -- ---- from hex
 module _ (x scratch left : List ℕ) where

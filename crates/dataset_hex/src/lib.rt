@@ -9,6 +9,7 @@ ghost use Rattle.dataset_hex.specs.Hex.{hex_of, well_framed, from_hex};
 use refusal::{Fault, Refusal};
 
 // Written afresh, as hex text in lower case: 1, 2, 3, 11.
+#[tactic(auto, using(refusal::proofs::Papers::passes, crate::proofs::Hexes::rewritten_within, crate::proofs::Hexes::front, crate::proofs::Hexes::length_both), unfolding(refusal::specs::Output::emit, crate::specs::Hex::hex_of))]
 pub fn to_hex(s: &[u8], out: &mut [u8]) -> Result<usize, Refusal>
     ensures { output (answer_of result) out.new ≡ emit (hex_of s.now) out.old }
 {
