@@ -2,7 +2,7 @@
 -- or the refusal. And what each typed query learns of the function that they share.
 -- Assumes nothing.
 use denote.Ref.{Bor}
-use mathlib.Core.Path.{◌≡◌, ap, ◌∙◌}
+use mathlib.Core.Path.{◌≡◌, ap, ◌∙◌, subst}
 use mathlib.Core.List.{List}
 use Prim.Native.Nat.{ℕ, ◌+◌, ◌≤◌}
 use native.Mathlib.Omega.{arith}
@@ -49,6 +49,12 @@ module _ (ty : ℕ) (s : List ℕ) where
   pub refused_found : (n p i : ℕ) → refused n p i ≡ last_spot ty 0 s → last_entry ty 0 s ≡ refused n p i
   unfolding last_spot
   refused_found n p i told = on_refused spot (last_entry ty 0 s) n p i told
+
+-- what a reader answered of the value that was found, which it was given with a place q: that must be the entry's own
+module _ {A : Type 0} (P : Bor (List ℕ) → ℕ → Result A Refusal → Type 0) (r : Result (Option A) Refusal) (ty : ℕ) (s : List ℕ) where
+  pub reads_at : (p a n : ℕ) → given (spot_at p a n) ≡ last_spot ty 0 s → (v : Bor (List ℕ)) (q : ℕ) (x : Result A Refusal) → P v q x → q ≡ p
+      → v.now ≡ take n (drop a s) → found_of r ≡ answer_of x → Reads P (last_entry ty 0 s) r
+  reads_at p a n told v q x read same part here = rw (found ty s p a n told).is (v, x, subst (λ (k : ℕ). P v k x) same read, part, here)
 
 -- ---- a typed query, whose value must have k bytes, by a reader that answers what f reads of them
 module _ {A : Type 0} (P : Bor (List ℕ) → ℕ → Result A Refusal → Type 0) (f : List ℕ → A) (k : ℕ)
