@@ -21,6 +21,7 @@ fn check_entry(ty: u8, value: &[u8], place: usize) -> Result<(), Refusal>
 }
 
 // How many entries a payload has, each of which decodes. Refusals: 1, 2, 3, then 4, 5 and 12, the first met.
+#[tactic(auto, using(crate::proofs::Checks::check_refused))]
 pub fn check_values(payload: &[u8]) -> Result<usize, Refusal>
     ensures { answer_of result ≡ on_given length (checked payload.now) }
 {
