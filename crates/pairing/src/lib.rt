@@ -118,6 +118,7 @@ fn write_codes(table: &[u8], own: Option<u16>, rows: [u16; 512], lists: Lists, o
 
 // A number for each row of the last child table, in row order, at the start of out: `Pairing::from_code` says what each means. Refusals: all
 // that the decode of the payload refuses, then 11.
+#[tactic(auto, using(laws::proofs::Emits::emit_refused, crate::proofs::Payloads::codes_refused))]
 pub fn pair(payload: &[u8], out: &mut [u16]) -> Result<usize, Refusal>
     ensures { output (answer_of result) out.new ≡ emit (codes payload.now) out.old }
 {
