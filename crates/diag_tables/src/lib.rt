@@ -11,6 +11,7 @@ use refusal::Refusal;
 
 // What a payload says; the records of its Network Data go into the tables, in prefix order, and records past its counts stay. Refusals: 1, 2, 3,
 // then 4, 5 and 12 at the first entry that does not decode, then 11 by the last Network Data; all records stay.
+#[tactic(auto, using(crate::proofs::Plans::refuses, crate::proofs::Plans::no_network_data))]
 pub fn decode(
     payload: &[u8],
     prefixes: &mut [PrefixEntry],

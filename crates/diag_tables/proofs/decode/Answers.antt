@@ -5,7 +5,7 @@ use native.Mathlib.Omega.{arith}
 use Rattle.refusal.proofs.Papers.{passes}
 use Rattle.diag.specs.Answers.{decoded_answer}
 use Rattle.diag_tables.specs.Tables.{outcome}
-use Rattle.diag_tables.proofs.Plans.{refuses, no_network_data, inside, filled}
+use Rattle.diag_tables.proofs.Plans.{refuses, inside, filled}
 use Rattle.diag_tables.proofs.decode.Goals as goal
 
 pub returns-in_err-d : goal.returns-in_err-d
@@ -28,6 +28,3 @@ returns-in_err-decode c =
 
 pub returns-in_ok-decode : goal.returns-in_ok-decode
 returns-in_ok-decode c = filled _ _ c.in_ok-d.ensures _ c.in-Some.is _ _ _ _ _ _ _ c.in_ok-decode.ensures
-
-pub returns-in_default : goal.returns-in_default
-returns-in_default c = no_network_data _ _ c.in_ok-d.ensures _ _ _ c.in_default.is
