@@ -5,6 +5,7 @@ ghost use Rattle.std.specs.Prelude.{◌≡◌};
 ghost use Rattle.refusal.specs.Output.{placing, placed};
 
 // All of bytes into out from at on, and the place after them; or nothing, and at, where they have no room.
+#[tactic(auto, using(laws::proofs::Puts::put_part, laws::proofs::Emits::placed_fits))]
 pub fn put_bytes(bytes: &[u8], out: &mut [u8], at: usize) -> usize
     ensures { placing result out.new ≡ placed bytes.now at out.old }
 {

