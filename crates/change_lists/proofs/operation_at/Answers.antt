@@ -8,6 +8,7 @@ use lib.ListN.{length, get_or, take, drop, length-drop}
 use lib.Seq.{take_all, get_or-drop}
 use borrow.Author.Tests.{lt-ltb, le-ltb, le-leb, lt-leb, eq-eqb, ne_eqb}
 use Rattle.change_lists.specs.Place.{op_frame_at}
+use Rattle.change_lists.specs.declared.OpFrame.TheVariants as o
 use Rattle.change_lists.proofs.operation_at.Goals as goal
 
 -- the bytes from the place on
@@ -46,7 +47,7 @@ returns-in-82 c =
     let mark : get_or s at 0 ≡ 82 = omega (arith, first s at) in
     let more : get_or s (at + 1) 0 ≡ 77 = omega (arith, byte s at 1) in
     let long : 3 ≤ length s - at = omega (arith, many s at) in
-    rw (byte s at 2) (simp (lt-leb _ _ c.if-list-at.false, le-ltb _ _ long, ne_eqb (get_or s at 0) 83 (λ z. omega arith), eq-eqb _ _ mark, eq-eqb _ _ more))
+    simp (lt-leb _ _ c.if-list-at.false, le-ltb _ _ long, ne_eqb (get_or s at 0) 83 (λ z. omega arith), eq-eqb _ _ mark, eq-eqb _ _ more) (ap o.Remove (omega (arith, byte s at 2)))
 
 pub returns-in_default : goal.returns-in_default
 unfolding op_frame_at
