@@ -10,9 +10,10 @@ use lib.ListN.{length, get_or, length-append, length-map, replicate}
 use borrow.Author.Tests.{le-ltb}
 use Rattle.refusal.specs.Sizes.{most_bytes, most_entries}
 use Rattle.refusal.specs.Answer.{Answer, given, refused, on_given, then_do}
-use Rattle.refusal.specs.Output.{Output, emit, put}
+use Rattle.refusal.specs.Output.{Output, output, emit, put}
 use Rattle.laws.proofs.Parts.{every_append, every_byte}
 use Rattle.laws.proofs.Puts.{put_then}
+use Rattle.laws.proofs.Emits.{emit_refused}
 use Rattle.tlv.specs.Entries.{Content, contents, Framing, framing}
 use Rattle.tlv.specs.Limits.{count}
 use Rattle.tlv_writing.specs.Encode.{encode_all, sized}
@@ -52,6 +53,10 @@ module _ (d l : List ℕ) where
   unfolding ran
   run_refused n p k e = tally.counted_refused 0 _ d n p k e
 
+  -- and as the answer and the output, which is what a return has to show
+  pub run_refused_emits : (n p k : ℕ) (out : List ℕ) → refused n p k ≡ count 0 d → output (refused n p k) out ≡ emit (ran d l) out
+  run_refused_emits n p k out e = emit_refused (ran d l) out n p k (run_refused n p k e)
+
   module _ (x : ℕ) (counted : given x ≡ count 0 d) where
     run_given : ran d l ≡ then_do (operations 1 l) (λ (os : List OpAt). sized (run_all (bare os) (contents (framing d).entries)))
     unfolding ran
@@ -61,6 +66,9 @@ module _ (d l : List ℕ) where
 
     pub run_list_refused : (n p k : ℕ) → refused n p k ≡ on_given length (operations 1 l) → refused n p k ≡ ran d l
     run_list_refused n p k e = counted_refused 1 _ l n p k e ∙ sym run_given
+
+    pub run_list_refused_emits : (n p k : ℕ) (out : List ℕ) → refused n p k ≡ on_given length (operations 1 l) → output (refused n p k) out ≡ emit (ran d l) out
+    run_list_refused_emits n p k out e = emit_refused (ran d l) out n p k (run_list_refused n p k e)
 
     module _ (y : ℕ) (listed : given y ≡ on_given length (operations 1 l)) (octets : (i : ℕ) → get_or l i 0 < 256) (m : List ℕ)
         (marked : Marked m (replicate 256 0) (ops_after 0 l)) where

@@ -174,6 +174,7 @@ fn room_for(bytes: usize, entries: usize, room: usize) -> Result<usize, Refusal>
 
 // The dataset's entries after the operations of the list, sizes tested once, at the end. Refusals: 1, 2, 3 of the dataset, 1, 9, 3 of
 // the list, 10, 11.
+#[tactic(auto, using(refusal::proofs::Papers::passes, crate::proofs::Results::run_refused_emits, crate::proofs::Results::run_list_refused_emits))]
 pub fn run(dataset: &[u8], list: &[u8], out: &mut [u8]) -> Result<usize, Refusal>
     ensures { output (answer_of result) out.new ≡ emit (ran dataset.now list.now) out.old }
 {

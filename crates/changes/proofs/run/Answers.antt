@@ -9,7 +9,7 @@ use borrow.Author.Rules.{rules}
 use Rattle.refusal.specs.Sizes.{most_bytes, most_entries}
 use Rattle.refusal.specs.Answer.{given}
 use Rattle.refusal.proofs.Papers.{passes}
-use Rattle.laws.proofs.Emits.{emit_refused, emit_done}
+use Rattle.laws.proofs.Emits.{emit_done}
 use Rattle.tlv.specs.Entries.{contents, framing}
 use Rattle.tlv_writing.specs.Encode.{encode_all, sized}
 use Rattle.tlv.proofs.Tally as tally
@@ -18,7 +18,7 @@ use Rattle.changes.specs.Loops.{ops_after, spared, chosen, encode_sets, extent_o
 use Rattle.changes.specs.declared.Extent.{Extent}
 use Rattle.change_lists.proofs.Counts.{counted_short}
 use Rattle.changes.proofs.Rooms.{room_refused, room_given}
-use Rattle.changes.proofs.Results.{put_both, left, run_refused, run_list_refused, run_sized, left_bytes, left_spared, left_chosen, left_length, left_count}
+use Rattle.changes.proofs.Results.{put_both, left, run_sized, left_bytes, left_spared, left_chosen, left_length, left_count}
 use Rattle.changes.proofs.run.Goals as goal
 
 -- and once the result is found to keep the sizes and to have room
@@ -26,14 +26,6 @@ fits : (d l m : List ℕ) (x y : Extent) (room n : ℕ) → x ≡ extent_of (spa
     → given n ≡ room_for (x.bytes + y.bytes) (x.entries + y.entries) room
     → (length (encode_all (left m d l)) ≤ most_bytes) × (length (left m d l) ≤ most_entries) × (length (encode_all (left m d l)) ≤ room)
 fits d l m x y room n e f told = rw (left_length m d l x y e f, left_count m d l x y e f) (room_given _ _ _ _ told)
-
-pub returns-in_err-count_entries : goal.returns-in_err-count_entries
-returns-in_err-count_entries c = rw (passes _ _ c.from_residual.ensures.1) (emit_refused _ _ _ _ _ (run_refused _ _ _ _ _ c.in_err-count_entries.ensures))
-
-pub returns-in_err-count_operations : goal.returns-in_err-count_operations
-returns-in_err-count_operations c =
-    rw (passes _ _ c.from_residual-in_err-count_operations.ensures.1)
-    (emit_refused _ _ _ _ _ (run_list_refused _ _ _ c.in_ok-count_entries.ensures _ _ _ c.in_err-count_operations.ensures))
 
 pub mark-marks-requires : goal.mark-marks-requires
 mark-marks-requires c = (search rules, counted_short _ _ _ c.in_ok-count_operations.ensures, search rules)
