@@ -9,7 +9,7 @@ ghost use Rattle.plain_values.specs.Plain.{checked, sized_value, name_at};
 use refusal::{Fault, Refusal};
 
 // The bytes of a value that has N of them. Refusals: 1, then 4 at the place of its entry, which is 0 for a bare value.
-#[tactic(auto, using(wire::proofs::Bes::whole_is, wire::proofs::Bes::whole_not))]
+#[tactic(auto, using(wire::proofs::Bes::whole_is, wire::proofs::Bes::whole_not, crate::proofs::Bytes::same_byte))]
 pub fn read_array<const N: usize>(value: &[u8], place: usize) -> Result<[u8; N], Refusal>
     ensures { answer_of result ≡ ruled N place value.now }
 {
