@@ -17,7 +17,7 @@ use Rattle.laws.proofs.Tests.{by_test}
 use Rattle.std.specs.Int.{w16, w32, w64, from_be_bytes}
 use lib.Seq.{take_all}
 use Rattle.laws.proofs.Parts.{elements, part_elements}
-use Rattle.wire.specs.Be.{be, be_from, wrong_length, ruled}
+use Rattle.wire.specs.Be.{be, be_from, wrong_length, ruled, fixed}
 
 -- one byte more is within the bound of one more
 pub bound_next : (i x b : ℕ) → x < 256 ^ i → b < 256 → x * 256 + b < 256 ^ (i + 1)
@@ -83,3 +83,17 @@ ruled_gives k place v w e =
     (λ t. by_test (ltb most_bytes (length v))
     (λ u. absurd (let h = rw (t, u) at e in let z : ◌≡◌ {A = ℕ} 0 1 = cc in omega arith))
     (λ u. absurd (let h = rw (t, u) at e in let z : ◌≡◌ {A = ℕ} 0 1 = cc in omega arith)))
+
+-- so the number that it spells is given, however the bytes are put together
+module _ (place : ℕ) (v w : List ℕ) (x : ℕ) where
+  pub reads_2 : given w ≡ ruled 2 place v → x ≡ from_be_bytes w16 w → given x ≡ fixed 2 place v
+  unfolding fixed
+  reads_2 e is = let h = ruled_gives _ _ _ _ (sym e) in ap given (is ∙ spelled_2 _ (ap length h.1 ∙ h.0)) ∙ ap (on_given be) e
+
+  pub reads_4 : given w ≡ ruled 4 place v → x ≡ from_be_bytes w32 w → given x ≡ fixed 4 place v
+  unfolding fixed
+  reads_4 e is = let h = ruled_gives _ _ _ _ (sym e) in ap given (is ∙ spelled_4 _ (ap length h.1 ∙ h.0)) ∙ ap (on_given be) e
+
+  pub reads_8 : given w ≡ ruled 8 place v → x ≡ from_be_bytes w64 w → given x ≡ fixed 8 place v
+  unfolding fixed
+  reads_8 e is = let h = ruled_gives _ _ _ _ (sym e) in ap given (is ∙ spelled_8 _ (ap length h.1 ∙ h.0)) ∙ ap (on_given be) e

@@ -39,6 +39,7 @@ fn exact<const N: usize>(value: &[u8], place: usize) -> Result<[u8; N], Refusal>
 }
 
 // The number that a value of 2 bytes spells. Refusals: 1, then 4 at the place of its entry, which is 0 for a bare value.
+#[tactic(auto, using(refusal::proofs::Papers::passes, crate::proofs::Bes::reads_2), unfolding(crate::specs::Be::fixed))]
 pub fn read_u16(value: &[u8], place: usize) -> Result<u16, Refusal>
     ensures { answer_of result ≡ fixed 2 place value.now }
 {
@@ -46,6 +47,7 @@ pub fn read_u16(value: &[u8], place: usize) -> Result<u16, Refusal>
 }
 
 // The same of 4 bytes.
+#[tactic(auto, using(refusal::proofs::Papers::passes, crate::proofs::Bes::reads_4), unfolding(crate::specs::Be::fixed))]
 pub fn read_u32(value: &[u8], place: usize) -> Result<u32, Refusal>
     ensures { answer_of result ≡ fixed 4 place value.now }
 {
@@ -53,6 +55,7 @@ pub fn read_u32(value: &[u8], place: usize) -> Result<u32, Refusal>
 }
 
 // The same of 8 bytes.
+#[tactic(auto, using(refusal::proofs::Papers::passes, crate::proofs::Bes::reads_8), unfolding(crate::specs::Be::fixed))]
 pub fn read_u64(value: &[u8], place: usize) -> Result<u64, Refusal>
     ensures { answer_of result ≡ fixed 8 place value.now }
 {
