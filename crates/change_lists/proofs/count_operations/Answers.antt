@@ -1,12 +1,14 @@
 -- `change_lists::count_operations` meets its contract. The invariant: counting on from the place at, with n operations passed, gives the answer.
 -- The measure is what is left of the list.
-use mathlib.Core.Path.{sym, ap, ◌∙◌}
+use mathlib.Core.Path.{◌≡◌, sym, ap, ◌∙◌}
 use Prim.Native.Nat.{◌≤◌}
 use native.Mathlib.Omega.{arith}
 use lib.ListN.{length}
 use borrow.Author.Rules.{rules}
 use borrow.Author.Tests.{lt-ltb, le-ltb}
 use Rattle.refusal.specs.Sizes.{most_bytes}
+use Rattle.refusal.specs.Answer.{refused}
+use Rattle.refusal.specs.Results.{answer_of}
 use Rattle.change_lists.specs.Operations.{operations}
 use Rattle.change_lists.proofs.Places.{turn_end, turn_bad, turn_set, turn_removal, set_within, removal_inside}
 use Rattle.change_lists.proofs.Counts.{tally, tally_start, tally_more, tally_end, tally_bad}
@@ -32,7 +34,8 @@ pub returns-in-Bad : goal.returns-in-Bad
 returns-in-Bad c =
     let bad = turn_bad _ _ _ c.operation_at.ensures c.in-Bad.is in
     let goes_on = ap (tally _ _ _) (sym bad) ∙ c.loop-start.invariant.2 in
-    c.stopped-in-Bad.ensures ∙ (sym (tally_bad _ _ _ _) ∙ goes_on)
+    let told : answer_of c.stopped-in-Bad.result ≡ refused 9 c.loop-start.at c.args.input = grind arith in
+    told ∙ (sym (tally_bad _ _ _ _) ∙ goes_on)
 
 pub overflow_add-n : goal.overflow_add-n
 overflow_add-n c = omega (arith, set_within _ _ _ c.operation_at.ensures _ _ _ c.in-Set.is)
