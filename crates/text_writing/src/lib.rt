@@ -19,6 +19,7 @@ pub fn put_byte(b: u8, out: &mut [u8], at: usize) -> usize
 }
 
 // A text into out from at on, as far as there is room; the place after it.
+#[tactic(auto, using(crate::proofs::Lays::laid_length, crate::proofs::Lays::copy_turn, crate::proofs::Lays::copy_end))]
 pub fn put_text(text: &[u8], out: &mut [u8], at: usize) -> usize
     ensures { placing result out.new ≡ laid at out.old text.now }
 {
