@@ -1,13 +1,13 @@
 -- The laws of `put`, for every writer: nothing more to store, one byte, one run after another, and a run at the start.
 -- Assumes nothing.
 use mathlib.Core.Path.{◌≡◌, refl, sym, ap, ◌∙◌}
-use mathlib.Core.List.{List, [], ◌∷◌, ◌++◌, append_assoc}
-use Prim.Native.Nat.{ℕ, suc, ◌+◌, ◌≤◌}
+use mathlib.Core.List.{List, [], ◌∷◌, ◌++◌}
+use Prim.Native.Nat.{ℕ, suc, ◌+◌, ◌≤◌, ◌<◌}
 use native.Mathlib.Omega.{arith}
 use native.Mathlib.Nat.{add-zero, zero-add}
 use native.Mathlib.Numerals.{add-one}
-use lib.ListN.{length, take, drop, set}
-use lib.Seq.{sets, sets-eq, length-sets, drop-drop}
+use lib.ListN.{length, drop, set, get_or}
+use lib.Seq.{sets, sets-eq, length-sets, drop-cons}
 use Rattle.refusal.specs.Output.{put}
 
 put_sets : (bs out : List ℕ) (at : ℕ) → put out at bs ≡ sets out at bs
@@ -38,11 +38,12 @@ pub put_start : (out bs : List ℕ) → length bs ≤ length out → put out 0 b
 put_start out bs h =
     put_sets bs out 0 ∙ sets-eq bs out 0 (omega arith) ∙ ap (λ (k : ℕ). bs ++ drop k out) (zero-add (length bs))
 
--- in a part of out
-pub put_part : (out bs : List ℕ) (at n : ℕ) → n ≡ length bs → at + n ≤ length out → put out at bs ≡ take at out ++ (bs ++ drop n (drop at out))
-put_part out bs at n e h =
-    put_sets bs out at ∙ sets-eq bs out at (omega arith) ∙ append_assoc (take at out) bs (drop (at + length bs) out)
-    ∙ ap (λ (d : List ℕ). take at out ++ (bs ++ d)) (ap (λ (k : ℕ). drop (at + k) out) (sym e) ∙ sym (drop-drop n at out))
+-- a turn of a loop that copies
+pub put_next : (src dst : List ℕ) (at i : ℕ) → i < length src
+    → put (set dst (at + i) (get_or src i 0)) (at + (i + 1)) (drop (i + 1) src) ≡ put dst (at + i) (drop i src)
+put_next src dst at i h =
+    let k : at + (i + 1) ≡ at + i + 1 = omega arith in
+    rw (k, add-one i, drop-cons src i 0) (sym (put_byte dst (at + i) (get_or src i 0) (drop (suc i) src)))
 
 -- a run was stored, and ys is still to be
 pub put_then : (out left : List ℕ) (at next : ℕ) (xs ys : List ℕ) → left ≡ put out at xs → next ≡ at + length xs → put left next ys ≡ put out at (xs ++ ys)

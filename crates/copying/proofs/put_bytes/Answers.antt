@@ -1,28 +1,13 @@
--- `copying::put_bytes` meets its contract: the two tests say whether the bytes have room.
-use mathlib.Core.Path.{◌≡◌, sym, ◌∙◌}
-use mathlib.Core.List.{List, [], ◌∷◌}
-use Prim.Native.Nat.{ℕ}
+-- `copying::put_bytes` meets its contract: after the last turn nothing is left to store.
+use mathlib.Core.Path.{sym, ap, ◌∙◌}
 use native.Mathlib.Omega.{arith}
-use native.Mathlib.Nat.{add-zero}
-use lib.Dec.{leb}
-use borrow.Author.Tests.{eqb-true}
-use lib.ListN.{length}
-use Rattle.refusal.specs.Output.{placing, placed, put}
-use Rattle.laws.proofs.Tests.{by_test}
-use Rattle.laws.proofs.Emits.{placed_not}
+use lib.ListN.{drop_of_length-le}
+use Rattle.refusal.specs.Output.{put}
+use Rattle.laws.proofs.Puts.{put_none}
+use Rattle.laws.proofs.Emits.{placed_fits}
 use Rattle.copying.proofs.put_bytes.Goals as goal
-use Rattle.copying.proofs.put_bytes.Goals.{then-is_empty-via-then-is_empty, then-is_empty-via-else-is_empty+then-at-out, then-is_empty-via-else-is_empty+else-at-out+then-bytes-out}
 
--- no bytes leave all as it is, whether or not there is such a place
-none : (out bs : List ℕ) (at : ℕ) → length bs ≡ 0 → placed bs at out ≡ placing at out
-unfolding placed put
-none out [] at h = rw add-zero (by_test (leb at (length out)) (λ t. simp t) (λ t. simp t))
-none out (b ∷ bs) at h = absurd (omega (arith, h))
-
-pub returns-then-is_empty : goal.returns-then-is_empty
-returns-then-is_empty c =
-    elim c.then-is_empty.branch [
-      | then-is_empty-via-then-is_empty w ↦ sym (none _ _ _ (eqb-true _ _ (sym c.is_empty.ensures ∙ w.if-is_empty.true)))
-      | then-is_empty-via-else-is_empty+then-at-out w ↦ sym (placed_not _ _ _ (omega arith))
-      | then-is_empty-via-else-is_empty+else-at-out+then-bytes-out w ↦ sym (placed_not _ _ _ (omega arith))
-    ]
+pub returns : goal.returns
+returns c =
+    let l = c.loop-i in
+    rw (sym (put_none _ _) ∙ ap (put _ _) (sym (drop_of_length-le _ c.loop-i-test.false)) ∙ l.invariant) (sym (placed_fits _ _ _ (omega arith)))
